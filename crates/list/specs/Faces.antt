@@ -2,6 +2,7 @@
 --
 --   isEnd x          the entry x is -1, which ends a face
 --   runs l           the runs between entries of -1; a last run counts only if it isn't empty
+--   runLength l      the number of entries before the first -1
 --   Face             where a face starts, as a position among all entries, and its entries without its -1
 --   faces l          the faces of l, numbered from 0 in list order
 --   corners l        the entries other than -1, in list order
@@ -33,6 +34,11 @@ abbrev pub runs : List ℤ → List (List ℤ)
 runs [] = []
 runs (x ∷ xs) = cond (isEnd x) ([] ∷ runs xs) (push x (runs xs))
 
+-- the entries before the first -1
+abbrev pub runLength : List ℤ → ℕ
+runLength [] = 0
+runLength (x ∷ xs) = cond (isEnd x) 0 (suc (runLength xs))
+
 pub record Face : Type 0 where
   pub start : ℕ
   pub entries : List ℤ
@@ -55,3 +61,24 @@ num (negsuc k) = 0
 
 abbrev pub vertices : List ℤ → List ℕ
 vertices r = map num r
+
+abbrev pub stepOf : ℕ → List (List ℤ) → Step
+stepOf i [] = Step·.Done
+stepOf i (r ∷ rs) = Step·.Face i (i + length r) (record { at = i + length r + 1 })
+
+abbrev pub stepAt : List ℤ → ℕ → Step
+stepAt l i = stepOf i (runs (drop i l))
+
+-- the entry that ends a face
+abbrev pub end : ℤ
+end = negsuc 0
+
+abbrev pub rejoined : List (List ℤ) → Bool → List ℤ
+rejoined [] e = []
+rejoined (r ∷ []) e = r ++ cond e (end ∷ []) []
+rejoined (r ∷ s ∷ rs) e = r ++ end ∷ rejoined (s ∷ rs) e
+
+abbrev pub endsClosed : List ℤ → Bool
+endsClosed [] = false
+endsClosed (x ∷ []) = isEnd x
+endsClosed (x ∷ y ∷ ys) = endsClosed (y ∷ ys)

@@ -1,2 +1,4 @@
 pub mod Limits
 pub mod Faces
+pub mod Check
+pub mod Show

@@ -1,0 +1,40 @@
+// Signed entries, read at a position of a list. These functions and `vertex_at` alone look at an entry's sign.
+ghost use mathlib.Core.Path.{_≡_};
+ghost use Prim.Native.Nat.{_+_, _<_, _≤_};
+ghost use lib.ListN.{length, getD, drop};
+ghost use lib.IntN.{pos};
+ghost use Rattle.list.specs.Faces.{isEnd, runLength};
+ghost use Rattle.list.specs.Check.{outside};
+
+pub fn end_at(l: &[i32], i: usize) -> bool
+    requires { ⌜ i < length (now l) ⌝ }
+    ensures { λ r. ⌜ r ≡ isEnd (getD (now (l .entry)) i (pos 0)) ⌝ }
+{
+    l[i] == -1
+}
+
+pub fn outside_at(l: &[i32], i: usize, n: usize) -> bool
+    requires { ⌜ i < length (now l) ⌝ }
+    ensures { λ r. ⌜ r ≡ outside n (getD (now (l .entry)) i (pos 0)) ⌝ }
+{
+    let x = l[i];
+    if x < 0 {
+        return x < -1;
+    }
+    n <= x as usize
+}
+
+// The position of the -1 that ends the face which starts at `at`, or the list's length if the list ends first.
+pub fn run_end(l: &[i32], at: usize) -> usize
+    requires { ⌜ at ≤ length (now l) ⌝ }
+    ensures { λ r. ⌜ r ≡ at + runLength (drop at (now (l .entry))) ⌝ }
+{
+    let mut i = at;
+    while i < l.len() {
+        if end_at(l, i) {
+            return i;
+        }
+        i += 1;
+    }
+    i
+}
