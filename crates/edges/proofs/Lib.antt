@@ -3,3 +3,8 @@ pub mod Uses
 pub mod Faces
 pub mod Mates
 pub mod Table
+pub mod Parts
+pub mod Blocks
+pub mod Scatter
+pub mod Counting
+pub mod Chain

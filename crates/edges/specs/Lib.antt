@@ -1,3 +1,4 @@
 pub mod Choose
 pub mod Uses
 pub mod Table
+pub mod Sort
