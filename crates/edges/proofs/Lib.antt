@@ -8,3 +8,4 @@ pub mod Blocks
 pub mod Scatter
 pub mod Counting
 pub mod Chain
+pub mod Pairs

@@ -76,6 +76,11 @@ module _ {A : Type 0} where
       go true e ih (inr i) = (inr (ih i .0), ih i .1)
       go false e ih i = (inr (ih i .0), ih i .1)
 
+  pub in-at : (d x : A) (xs : List A) → In x xs → (p : ℕ) × (p < length xs) × (getD xs p d ≡ x)
+  in-at d x [] i = absurd i
+  in-at d x (y ∷ ys) (inl e) = (0, omega arith, sym e)
+  in-at d x (y ∷ ys) (inr i) = let r = in-at d x ys i in (suc (r .0), omega (arith, r .1), r .2)
+
   pub choose-few : (p : A → Bool) (xs : List A) → length (choose p xs) ≤ length xs
   choose-few p [] = omega arith
   choose-few p (x ∷ xs) = go (p x) (choose-few p xs)

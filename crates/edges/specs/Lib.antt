@@ -2,3 +2,4 @@ pub mod Choose
 pub mod Uses
 pub mod Table
 pub mod Sort
+pub mod Runs
