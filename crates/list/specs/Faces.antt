@@ -32,7 +32,7 @@ push x (r ∷ rs) = (x ∷ r) ∷ rs
 
 abbrev pub runs : List ℤ → List (List ℤ)
 runs [] = []
-runs (x ∷ xs) = cond (isEnd x) ([] ∷ runs xs) (push x (runs xs))
+runs (x ∷ xs) = let rs = runs xs in cond (isEnd x) ([] ∷ rs) (push x rs)
 
 -- the entries before the first -1
 abbrev pub runLength : List ℤ → ℕ
@@ -53,7 +53,7 @@ faces l = facesFrom 0 (runs l)
 
 abbrev pub corners : List ℤ → List ℤ
 corners [] = []
-corners (x ∷ xs) = cond (isEnd x) (corners xs) (x ∷ corners xs)
+corners (x ∷ xs) = let cs = corners xs in cond (isEnd x) cs (x ∷ cs)
 
 abbrev pub num : ℤ → ℕ
 num (pos k) = k
