@@ -2,3 +2,4 @@ pub mod Limits
 pub mod Faces
 pub mod Check
 pub mod Show
+pub mod Flags
