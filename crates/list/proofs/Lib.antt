@@ -5,3 +5,7 @@ pub mod Repeats
 pub mod Faults
 pub mod Checking
 pub mod Shown
+pub mod Facewise
+pub mod Given
+pub mod Rejoined
+pub mod Bench

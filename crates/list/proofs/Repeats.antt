@@ -1,7 +1,7 @@
 -- Laws of the repeat rule: which vertices have been seen, the first repeat from a place on, and the flags that tell it.
 use Prim.Native.Nat.{ℕ, zero, suc, _+_, _-_, _≤_, _<_}
 use mathlib.Core.Path.{_≡_, refl, sym, _∙_, ap, subst, subst⁻¹}
-use mathlib.Core.Bool.{Bool, true, false, cond, _||_, true≢false, or-comm, or-assoc, or-false}
+use mathlib.Core.Bool.{Bool, true, false, cond, _||_, true≢false, false≢true, or-comm, or-assoc, or-false, or-true}
 use mathlib.Core.List.{List, [], _∷_, _++_, map}
 use native.Mathlib.Numerals.{add-one}
 use native.Mathlib.Omega.{arith}
@@ -200,3 +200,39 @@ pub looked : (l : List ℤ) (j v : ℕ) → j ≤ length l → v ≡ num (getD l
 looked l j v h e =
     rw (e, ← (vertex-of l j), vertices-take l j)
     (sym (elem-seen (getD (vertices l) j 0) (vertices l) j (rw vertices-long h)))
+
+-- a vertex that has been seen stands at an earlier place, and the other way round
+pub seen-index : (vs : List ℕ) (j v : ℕ) → elem v (seenTo vs j) ≡ true → (i : ℕ) × (i < j) × (getD vs i 0 ≡ v)
+seen-index vs zero v e = absurd (false≢true e)
+seen-index vs (suc j) v e = go (seen-index vs j v) (eqb v (getD vs j 0)) refl e
+  where
+    go : (elem v (seenTo vs j) ≡ true → (i : ℕ) × (i < j) × (getD vs i 0 ≡ v)) → (b : Bool) → eqb v (getD vs j 0) ≡ b → (b || elem v (seenTo vs j)) ≡ true → (i : ℕ) × (i < suc j) × (getD vs i 0 ≡ v)
+    go earlier true q e = (j, omega arith, sym (eqb-true v (getD vs j 0) q))
+    go earlier false q e = let s = earlier e in (s .0, omega (arith, s .1), s .2)
+
+pub seen-has : (vs : List ℕ) (j i v : ℕ) → i < j → getD vs i 0 ≡ v → elem v (seenTo vs j) ≡ true
+seen-has vs zero i v h e = absurd (omega arith)
+seen-has vs (suc j) i v h e = go (seen-has vs j i v) (decLt i j)
+  where
+    go : (i < j → getD vs i 0 ≡ v → elem v (seenTo vs j) ≡ true) → Dec (i < j) → (eqb v (getD vs j 0) || elem v (seenTo vs j)) ≡ true
+    go earlier (yes q) = rw (earlier q e) (or-true (eqb v (getD vs j 0)))
+    go earlier (no q) =
+        let last : i ≡ j = omega arith in
+        rw (eq-eqb v (getD vs j 0) (sym e ∙ ap (λ k. getD vs k 0) last))
+
+module _ (vs : List ℕ) where
+  pub repeat-found : firstRepeat vs < length vs → elem (getD vs (firstRepeat vs) 0) (seenTo vs (firstRepeat vs)) ≡ true
+  repeat-found h = go (elem (getD vs (firstRepeat vs) 0) (seenTo vs (firstRepeat vs))) refl
+    where
+      go : (b : Bool) → elem (getD vs (firstRepeat vs) 0) (seenTo vs (firstRepeat vs)) ≡ b → b ≡ true
+      go true e = refl
+      go false e = absurd (omega (arith, unrepeated-before vs (firstRepeat vs) (omega arith) .left, repeat-later vs (firstRepeat vs) h e))
+
+  -- a vertex that has been seen, and none before it, is the first repeat
+  pub repeat-only : (j : ℕ) → j < length vs → elem (getD vs j 0) (seenTo vs j) ≡ true → ((i : ℕ) → i < j → elem (getD vs i 0) (seenTo vs i) ≡ false) → firstRepeat vs ≡ j
+  repeat-only j h e none = go (decLt (firstRepeat vs) j) (decLt j (firstRepeat vs))
+    where
+      go : Dec (firstRepeat vs < j) → Dec (j < firstRepeat vs) → firstRepeat vs ≡ j
+      go (yes q) d = absurd (true≢false (sym (repeat-found (omega arith)) ∙ none (firstRepeat vs) q))
+      go (no q) (yes t) = absurd (true≢false (sym e ∙ seen-not vs j h t))
+      go (no q) (no t) = omega arith
