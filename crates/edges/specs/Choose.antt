@@ -12,7 +12,7 @@ use lib.ListN.{length}
 module _ {A : Type 0} where
   abbrev pub choose : (A → Bool) → List A → List A
   choose p [] = []
-  choose p (x ∷ xs) = cond (p x) (x ∷ choose p xs) (choose p xs)
+  choose p (x ∷ xs) = let chosen = choose p xs in cond (p x) (x ∷ chosen) chosen
 
   abbrev pub count : (A → Bool) → List A → ℕ
   count p xs = length (choose p xs)

@@ -1,0 +1,4 @@
+pub mod Groups
+pub mod Renumber
+pub mod Classes
+pub mod Cut
