@@ -9,3 +9,6 @@ pub mod Scatter
 pub mod Counting
 pub mod Chain
 pub mod Pairs
+pub mod Filling
+pub mod Walk
+pub mod Assembly
