@@ -35,7 +35,7 @@ filling-end : (ys : List ℕ) (to : ℕ) (w₀ w : List ℕ) (i : ℕ) → i ≡
 filling-end ys to w₀ w i e f = rw (← e) (f .filled ∙ rw (e, take-length ys))
 
 module _ (at : ℕ) (r : List ℤ) (i : ℕ) (h : i < length r) where
-  place : getD (usesOfFace at (vertices r)) i noUse ≡ record { corner = at + i; next = at + nextIn (length r) i; from = num (getD r i (pos 0)); to = num (getD r (nextIn (length r) i) (pos 0)) }
+  pub place : getD (usesOfFace at (vertices r)) i noUse ≡ record { corner = at + i; next = at + nextIn (length r) i; from = num (getD r i (pos 0)); to = num (getD r (nextIn (length r) i) (pos 0)) }
   place = use-in at (vertices r) i noUse (rw (vertices-long r) h) ∙ rw (vertices-long r, vertex-of r i, vertex-of r (nextIn (length r) i))
 
   pub key-word : pairKey (num (getD r i (pos 0))) (num (getD r (nextIn (length r) i) (pos 0))) ≡ getD (map keyOf (usesOfFace at (vertices r))) i 0

@@ -12,3 +12,4 @@ pub mod Pairs
 pub mod Filling
 pub mod Walk
 pub mod Assembly
+pub mod Question

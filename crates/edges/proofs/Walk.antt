@@ -96,7 +96,7 @@ module _ (n : ℕ) (l : List ℤ) (i at : ℕ) (d : drop i l ≡ []) (W : Walkin
   written-done g b w h = sym (append-nil (part b at w)) ∙ (rw d at h)
 
 -- a list has at most as many corners as entries
-corners-few : (l : List ℤ) → length (corners l) ≤ length l
+pub corners-few : (l : List ℤ) → length (corners l) ≤ length l
 corners-few [] = omega arith
 corners-few (x ∷ xs) = go (isEnd x) (corners-few xs)
   where

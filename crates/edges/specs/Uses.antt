@@ -5,6 +5,7 @@
 --   uses l             the uses of the list l: one for each corner, in the order of the corners
 --   nextIn m i         the place that follows place i in a face of m corners: after the last the first
 --   lo u, hi u         the edge of the use u, an unordered pair: its lower and its higher vertex
+--   isEdge v w a b     the edge between v and w is the one between a and b
 --   onEdge a b u       u is a use of the edge between a and b, whichever way it runs
 --   usesOn us a b      the uses of that edge
 --   facesOn l a b      the number of faces on that edge; 0 where it is no edge
@@ -53,8 +54,11 @@ lo u = min (u .from) (u .to)
 abbrev pub hi : Use → ℕ
 hi u = max (u .from) (u .to)
 
+abbrev pub isEdge : ℕ → ℕ → ℕ → ℕ → Bool
+isEdge v w a b = eqb (min v w) (min a b) && eqb (max v w) (max a b)
+
 abbrev pub onEdge : ℕ → ℕ → Use → Bool
-onEdge a b u = eqb (lo u) (min a b) && eqb (hi u) (max a b)
+onEdge a b u = isEdge (u .from) (u .to) a b
 
 abbrev pub usesOn : List Use → ℕ → ℕ → List Use
 usesOn us a b = choose (onEdge a b) us

@@ -7,7 +7,7 @@ ghost use Prim.Native.Nat.{ℕ, _+_, _≤_, _<_};
 ghost use lib.ListN.{length, getD};
 ghost use Rattle.list.specs.Limits.{maxEntries, maxVertices};
 ghost use Rattle.list.specs.Faces.{vertices};
-ghost use Rattle.edges.specs.Uses.{usesOfFace, nextIn};
+ghost use Rattle.edges.specs.Uses.{usesOfFace, usesOn, nextIn, isEdge};
 ghost use Rattle.edges.specs.Table.{nextWords};
 ghost use Rattle.edges.specs.Sort.{pairKey, keyOf, part, Kept};
 
@@ -74,4 +74,35 @@ pub fn write_vertices(face: &[i32], work: &mut [u32], to: usize)
         work[to + i] = list::vertex_at(face, i) as u32;
         i += 1;
     }
+}
+
+// Whether the edge between two vertices is the one between a and b, whichever way it runs.
+fn is_edge(from: usize, to: usize, a: usize, b: usize) -> bool
+    ensures { λ r. ⌜ r ≡ isEdge from to a b ⌝ }
+{
+    if from == a {
+        return to == b;
+    }
+    if from == b {
+        return to == a;
+    }
+    false
+}
+
+// The face's uses of the edge between a and b.
+pub fn uses_on(face: &[i32], a: usize, b: usize) -> usize
+    ensures { λ r. ⌜ r ≡ length (usesOn (usesOfFace 0 (vertices (now (face .entry)))) a b) ⌝ }
+{
+    let m = face.len();
+    let mut count = 0;
+    let mut i = 0;
+    while i < m {
+        let from = list::vertex_at(face, i);
+        let to = list::vertex_at(face, next_in(m, i));
+        if is_edge(from, to, a, b) {
+            count += 1;
+        }
+        i += 1;
+    }
+    count
 }
