@@ -1,3 +1,4 @@
 pub mod Bench
 pub mod Equivalence
 pub mod Walk
+pub mod Labels
