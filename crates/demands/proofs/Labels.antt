@@ -3,19 +3,20 @@
 use Prim.Native.Nat.{ℕ, zero, suc, _+_, _≤_, _<_, min, max}
 use mathlib.Core.Path.{_≡_, refl, sym, _∙_, ap, fun-ext}
 use mathlib.Core.Bool.{Bool, true, false, cond}
-use mathlib.Core.List.{List, [], _∷_, map, List·Memᴰ, List·Memᴰ·head, List·Memᴰ·tail, List·Memᴰ·not-nil, List·Memᴰ·cases-cons}
+use mathlib.Core.List.{List, [], _∷_, map}
 use mathlib.Core.Logic.{_⊎_, inl, inr}
 use native.Mathlib.Omega.{arith}
 use borrow.Author.Tests.{leb-true, leb-false, ltb-true, ltb-false, eqb-true, eqb-false}
 use lib.Dec.{leb, ltb, eqb}
 use lib.ListN.{length, getD, length-map, List·getD-map, List·getD-eq-default}
+use Rattle.edges.proofs.Lists.{In}
 use Rattle.cut.specs.Groups.{Link, countFrom, upTo, replaced, merge, mergeAll, labelsOf}
 use Rattle.demands.specs.Joined.{Joined, link, same, back, chain}
 use Rattle.demands.proofs.Equivalence.{joined-equal}
 
 -- x and y are the two corners of a link of ks
 abbrev pub Linking : List Link → ℕ → ℕ → Type 0
-Linking ks x y = (k : Link) × List·Memᴰ k ks × (x ≡ k .one) × (y ≡ k .two)
+Linking ks x y = (k : Link) × In k ks × (x ≡ k .one) × (y ≡ k .two)
 
 -- labels after one link and after several, as a function of the corner
 abbrev step : (ℕ → ℕ) → Link → ℕ → ℕ
@@ -108,13 +109,13 @@ steps-equal f [] x y e = e
 steps-equal f (k ∷ ks) x y e = steps-equal (step f k) ks x y (ap (replaced (large f k) (small f k)) e)
 
 steps-join : (f : ℕ → ℕ) (ks : List Link) (x y : ℕ) → Linking ks x y → steps f ks x ≡ steps f ks y
-steps-join f [] x y l = absurd (List·Memᴰ·not-nil (l .1))
-steps-join f (k ∷ ks) x y l = go (List·Memᴰ·cases-cons (l .1)) (λ m. steps-join (step f k) ks x y (l .0, m, l .2, l .3))
+steps-join f [] x y l = absurd (l .1)
+steps-join f (k ∷ ks) x y l = go (l .1) (λ m. steps-join (step f k) ks x y (l .0, m, l .2, l .3))
   where
     one : l .0 ≡ k → step f k x ≡ step f k y
     one e = ap (step f k) (l .2 ∙ ap (λ (k : Link). k .one) e) ∙ step-joins f k ∙ ap (step f k) (sym (l .3 ∙ ap (λ (k : Link). k .two) e))
 
-    go : (l .0 ≡ k) ⊎ List·Memᴰ (l .0) ks → (List·Memᴰ (l .0) ks → steps (step f k) ks x ≡ steps (step f k) ks y) → steps (step f k) ks x ≡ steps (step f k) ks y
+    go : (l .0 ≡ k) ⊎ In (l .0) ks → (In (l .0) ks → steps (step f k) ks x ≡ steps (step f k) ks y) → steps (step f k) ks x ≡ steps (step f k) ks y
     go (inl e) ih = steps-equal (step f k) ks x y (one e)
     go (inr m) ih = ih m
 
@@ -124,14 +125,14 @@ Joining c R f = (x y : ℕ) → x < c → y < c → f x ≡ f y → Joined R x y
 
 -- the links are of R and of corners below c
 abbrev pub Below : ℕ → (ℕ → ℕ → Type 0) → List Link → Type 0
-Below c R ks = (k : Link) → List·Memᴰ k ks → R (k .one) (k .two) × (k .one < c) × (k .two < c)
+Below c R ks = (k : Link) → In k ks → R (k .one) (k .two) × (k .one < c) × (k .two < c)
 
 steps-joining : (c : ℕ) (R : ℕ → ℕ → Type 0) (f : ℕ → ℕ) (ks : List Link) → Below c R ks → Joining c R f → Joining c R (steps f ks)
 steps-joining c R f [] below j = j
-steps-joining c R f (k ∷ ks) below j = steps-joining c R (step f k) ks (λ k m. below k (List·Memᴰ·tail m)) one
+steps-joining c R f (k ∷ ks) below j = steps-joining c R (step f k) ks (λ k m. below k (inr m)) one
   where
     this : R (k .one) (k .two) × (k .one < c) × (k .two < c)
-    this = below k (List·Memᴰ·head refl)
+    this = below k (inl refl)
 
     one : Joining c R (step f k)
     one x y x<c y<c e = go (step-splits f k x y e)

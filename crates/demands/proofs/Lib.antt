@@ -2,3 +2,4 @@ pub mod Bench
 pub mod Equivalence
 pub mod Walk
 pub mod Labels
+pub mod Distinct
