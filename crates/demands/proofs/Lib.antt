@@ -3,3 +3,4 @@ pub mod Equivalence
 pub mod Walk
 pub mod Labels
 pub mod Distinct
+pub mod Numbering
