@@ -4,3 +4,4 @@ pub mod Walk
 pub mod Labels
 pub mod Distinct
 pub mod Numbering
+pub mod Corners

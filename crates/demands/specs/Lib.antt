@@ -1,2 +1,3 @@
 pub mod Joined
 pub mod Renumbered
+pub mod Linked
