@@ -5,3 +5,4 @@ pub mod Labels
 pub mod Distinct
 pub mod Numbering
 pub mod Corners
+pub mod Crossing
