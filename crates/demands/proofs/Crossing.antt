@@ -121,6 +121,11 @@ module _ (l : List ℤ) (ok : Cornered l) where
       (shares l a b g (omega (arith, uses-long l)) (ends-same l e g e-below g-below q))
       e≢f e≢g f≢g)
 
+  -- and the use that shares an edge of two faces with another is the only one
+  pub two-only : (e f g : ℕ) → e < length (corners l) → f < length (corners l) → g < length (corners l) → facesOn l (useAt l e .from) (useAt l e .to) ≡ 2 → Ends l f e → Ends l g e → (e ≡ f → ⊥) → (e ≡ g → ⊥) → f ≡ g
+  two-only e f g e-below f-below g-below two p q e≢f e≢g =
+      ⊎-elim (λ r. r) (λ n. absurd (omega (arith, three-faces e f g e-below f-below g-below p q e≢f e≢g n, two))) (equal-or-not f g)
+
 abbrev pub joins : (Use → Bool) → List ℤ → ℕ → ℕ → Bool
 joins J l e f = cond (ltb e f) (J (useAt l e)) (J (useAt l f))
 
@@ -135,7 +140,7 @@ joins-back J l e f n = go (ltb e f) refl
     go true p = rw (le-ltb f e (omega (arith, ltb-true e f p)))
     go false p = rw (lt-ltb f e (omega (arith, ltb-false e f p)))
 
-pub across-back : (l : List ℤ) {x y : ℕ} {s t : Side} → Across l x s y t → Across l y t x s
+unfoldable pub across-back : (l : List ℤ) {x y : ℕ} {s t : Side} → Across l x s y t → Across l y t x s
 across-back l a =
     let e = a .one in
     let f = a .two in
@@ -171,10 +176,7 @@ crossing-meets J l ok = record {
         let same-one : b .one ≡ e = side-once l ok (b .one) e s (b .one-below) (a .one-below) (sym (b .x-is) ∙ a .x-is) in
         let g-ends : Ends l g e = subst (λ (k : ℕ). Ends l g k) same-one (same-ends l (b .one) g (b .one-below) (b .two-below) (b .same-edge)) in
         let f-ends : Ends l f e = same-ends l e f (a .one-below) (a .two-below) (a .same-edge) in
-        let same-two : f ≡ g = ⊎-elim (λ p. p) (λ n. absurd (many f-ends g-ends (λ p. b .differ (same-one ∙ p)) n)) (equal-or-not f g) in
+        let same-two : f ≡ g = two-only l ok e f g (a .one-below) (a .two-below) (b .two-below) (a .two-faces) f-ends g-ends (a .differ) (λ p. b .differ (same-one ∙ p)) in
         let vertex : vertexAt l (cornerBy l f t) ≡ vertexAt l (cornerBy l f u) = ap (vertexAt l) (sym (a .y-is)) ∙ sym (a .same-vertex) ∙ b .same-vertex ∙ ap (vertexAt l) (b .y-is ∙ ap (λ (k : ℕ). cornerBy l k u) (sym same-two)) in
         let side : t ≡ u = end-once l ok f t u (a .two-below) vertex in
         (a .y-is ∙ ap (cornerBy l f) side ∙ ap (λ (k : ℕ). cornerBy l k u) same-two ∙ sym (b .y-is), side)
-      where
-        many : Ends l (a .two) (a .one) → Ends l (b .two) (a .one) → (a .one ≡ b .two → ⊥) → (a .two ≡ b .two → ⊥) → ⊥
-        many p q n m = omega (arith, three-faces l ok (a .one) (a .two) (b .two) (a .one-below) (a .two-below) (b .two-below) p q (a .differ) n m, a .two-faces)

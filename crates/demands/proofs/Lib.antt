@@ -6,3 +6,4 @@ pub mod Distinct
 pub mod Numbering
 pub mod Corners
 pub mod Crossing
+pub mod Links
