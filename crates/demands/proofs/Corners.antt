@@ -18,7 +18,7 @@ use lib.Seq.{getD-append-add}
 use Rattle.list.specs.Faces.{runs, num, vertices, corners}
 use Rattle.list.specs.Check.{ValidFace, Valid}
 use Rattle.edges.specs.Uses.{Use, usesOfFace, usesFrom, uses}
-use Rattle.edges.proofs.Uses.{noUse, use-in, nextIn, next-inside, uses-face-long, uses-long, from-at, to-next, next-below}
+use Rattle.edges.proofs.Uses.{noUse, use-in, joined, corners-joined, nextIn, next-inside, uses-face-long, uses-long, from-at, to-next, next-below}
 use Rattle.edges.proofs.Faces.{Proper, use-proper, vertex-once, face-long}
 use Rattle.demands.specs.Renumbered.{vertexAt}
 use Rattle.demands.specs.Linked.{useAt}
@@ -35,11 +35,11 @@ pub record Cornered (l : List ℤ) : Type 0 where
   pub neighbours-differ : (e : ℕ) → e < length (corners l) → vertexAt l e ≡ vertexAt l (next l (next l e)) → ⊥
 
 -- an element of two lists put together is one of the first or of the second
-data Part {A : Type 0} (d : A) (xs ys : List A) (i : ℕ) : Type 0 where
+pub data Part {A : Type 0} (d : A) (xs ys : List A) (i : ℕ) : Type 0 where
   first : i < length xs → getD (xs ++ ys) i d ≡ getD xs i d → Part d xs ys i
   second : (j : ℕ) → j < length ys → i ≡ length xs + j → getD (xs ++ ys) i d ≡ getD ys j d → Part d xs ys i
 
-part : {A : Type 0} (d : A) (xs ys : List A) (i : ℕ) → i < length (xs ++ ys) → Part d xs ys i
+pub part : {A : Type 0} (d : A) (xs ys : List A) (i : ℕ) → i < length (xs ++ ys) → Part d xs ys i
 part d xs ys i h = go (ltb i (length xs)) refl
   where
     go : (b : Bool) → ltb i (length xs) ≡ b → Part d xs ys i
@@ -193,3 +193,16 @@ valid-cornered l n v = record {
   where
     ring : Ring 0 (uses l)
     ring = ring-runs n 0 (runs l) (v .each-face)
+
+-- the entry of a corner is its vertex
+
+entries-of : (n : ℕ) (rs : List (List ℤ)) → ((k : ℕ) → k < length rs → ValidFace n (getD rs k [])) → (x : ℕ) → x < length (joined rs) → getD (joined rs) x (pos 0) ≡ pos (num (getD (joined rs) x (pos 0)))
+entries-of n [] v x h = absurd (omega arith)
+entries-of n (r ∷ rs) v x h = go (part (pos 0) r (joined rs) x h) (entries-of n rs (λ k h. v (suc k) (omega arith)))
+  where
+    go : Part (pos 0) r (joined rs) x → ((x : ℕ) → x < length (joined rs) → getD (joined rs) x (pos 0) ≡ pos (num (getD (joined rs) x (pos 0)))) → getD (r ++ joined rs) x (pos 0) ≡ pos (num (getD (r ++ joined rs) x (pos 0)))
+    go (first h p) ih = let w = v 0 (omega arith) .inside x h in rw (p, w .1)
+    go (second j h e p) ih = rw p (ih j h)
+
+pub corner-entry : (l : List ℤ) (n : ℕ) → Valid l n → (x : ℕ) → x < length (corners l) → getD (corners l) x (pos 0) ≡ pos (vertexAt l x)
+corner-entry l n v x h = rw (corners-joined l) (entries-of n (runs l) (v .each-face) x (rw (corners-joined l) at h))

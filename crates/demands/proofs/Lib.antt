@@ -7,3 +7,5 @@ pub mod Numbering
 pub mod Corners
 pub mod Crossing
 pub mod Links
+pub mod Shape
+pub mod Result
