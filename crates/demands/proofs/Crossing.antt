@@ -79,6 +79,10 @@ sides-ends l e f stops starts p q = inr (q, p)
 sides-ends l e f stops stops p q = inl (q, p)
 
 module _ (l : List ℤ) (ok : Cornered l) where
+  pub cornerBy-below : (e : ℕ) (s : Side) → e < length (corners l) → cornerBy l e s < length (corners l)
+  cornerBy-below e starts h = h
+  cornerBy-below e stops h = ok .next-inside e h
+
   -- the other ends too lie on one vertex
   pub ends-sides : (e f : ℕ) (s t : Side) → f < length (corners l) → Ends l e f → vertexAt l (cornerBy l e s) ≡ vertexAt l (cornerBy l f t) → vertexAt l (cornerBy l e (opposite s)) ≡ vertexAt l (cornerBy l f (opposite t))
   ends-sides e f starts starts h (inl p) q = p .1

@@ -22,7 +22,7 @@ use Rattle.demands.proofs.Equivalence.{joined-equal}
 use Rattle.demands.proofs.Walk.{Met}
 use Rattle.demands.proofs.Labels.{Linking, Below, labelAt, label-joined, joined-label}
 use Rattle.demands.proofs.Corners.{next, Cornered}
-use Rattle.demands.proofs.Crossing.{Ends, use-from, use-to, same-ends, ends-back, ends-sides, two-only, joins, Crossing, across-back}
+use Rattle.demands.proofs.Crossing.{Ends, use-from, use-to, same-ends, ends-back, ends-sides, two-only, cornerBy-below, joins, Crossing, across-back}
 
 module _ {A : Type 0} where
   pub in-left : (x : A) (xs ys : List A) → In x xs → In x (xs ++ ys)
@@ -146,13 +146,9 @@ module _ (J : Use → Bool) (l : List ℤ) (ok : Cornered l) where
       let q = links-of J (uses l) k (useAt l e) (mateOf (uses l) (useAt l e)) (r .2) in
       link-of e (q .0) (omega (arith, r .1, uses-long l)) (q .1) k (q .3) (omega (arith, q .2, corner-at l e (r .1))) (q .4)
 
-  cornerBy-below : (e : ℕ) (s : Side) → e < length (corners l) → cornerBy l e s < length (corners l)
-  cornerBy-below e starts h = h
-  cornerBy-below e stops h = ok .next-inside e h
-
   pub crossing-below : {x y : ℕ} {s t : Side} → Across l x s y t → (x < length (corners l)) × (y < length (corners l))
   crossing-below {x} {y} {s} {t} a =
-      (omega (arith, a .x-is, cornerBy-below (a .one) s (a .one-below)), omega (arith, a .y-is, cornerBy-below (a .two) t (a .two-below)))
+      (omega (arith, a .x-is, cornerBy-below l ok (a .one) s (a .one-below)), omega (arith, a .y-is, cornerBy-below l ok (a .two) t (a .two-below)))
 
   -- the link for the ends of e and f by their sides s and t
   link-by : (e f : ℕ) (s t : Side) → e < length (corners l) → f < length (corners l) → Ends l e f → vertexAt l (cornerBy l e s) ≡ vertexAt l (cornerBy l f t) → (k : Link) × In k (linksOf (useAt l e) (useAt l f)) × (cornerBy l e s ≡ k .one) × (cornerBy l f t ≡ k .two)

@@ -25,8 +25,8 @@ use Rattle.demands.proofs.Labels.{labelAt, labels-length}
 use Rattle.demands.proofs.Distinct.{two-in}
 use Rattle.demands.proofs.Numbering.{new-ends, new-corners-length, new-vertex, same-number, same-label, Refines}
 use Rattle.demands.proofs.Corners.{next, Cornered, valid-cornered, corner-entry}
-use Rattle.demands.proofs.Crossing.{Ends, edge-vertices, same-ends, ends-same, ends-back, sides-ends, ends-sides, side-once, corner-once, three-faces, Crossing, crossing-meets}
-use Rattle.demands.proofs.Links.{group-joined, joined-group}
+use Rattle.demands.proofs.Crossing.{Ends, edge-vertices, same-ends, ends-same, ends-back, sides-ends, cornerBy-below, ends-sides, side-once, corner-once, three-faces, Crossing, crossing-meets}
+use Rattle.demands.proofs.Links.{crossing-below, group-joined, joined-group}
 use Rattle.demands.proofs.Shape.{same-next, new-valid}
 
 module _ (J : Use → Bool) (l : List ℤ) (n : ℕ) (v : Valid l n) where
@@ -75,3 +75,141 @@ module _ (J : Use → Bool) (l : List ℤ) (n : ℕ) (v : Valid l n) where
     new-joined e =
         group-joined J l cornered x y x-below y-below
         (same-label groups x y (omega (arith, groups-length)) (omega (arith, groups-length)) (sym (new-vertex l groups groups-length x) ∙ e ∙ new-vertex l groups groups-length y))
+
+  -- a corner's side at an edge with three faces is free
+  crowded : (e : ℕ) (s : Side) → e < length (corners l) → 3 ≤ facesOn l (useAt l e .from) (useAt l e .to) → Free (Crossing J l) (cornerBy l e s) s
+  crowded e s h many y t c =
+      let a = c .across in
+      let is-e : a .one ≡ e = side-once l cornered (a .one) e s (a .one-below) h (sym (a .x-is)) in
+      let two : facesOn l (useAt l e .from) (useAt l e .to) ≡ 2 = rw is-e at (a .two-faces) in
+      omega arith
+
+  -- the use that starts at e runs between the new vertices a and b: its end on a, by its side
+  abbrev On : ℕ → ℕ → ℕ → Type 0
+  On a b e = (s : Side) × (vertexAt result (cornerBy l e s) ≡ a) × (vertexAt result (cornerBy l e (opposite s)) ≡ b)
+
+  on-edge-by : (a b e : ℕ) → e < length (corners l) → onEdge a b (useAt result e) ≡ true → On a b e
+  on-edge-by a b e h o = go (edge-vertices result e (omega (arith, result-corners)) a b o)
+    where
+      go : ((vertexAt result e ≡ a) × (vertexAt result (next result e) ≡ b)) ⊎ ((vertexAt result e ≡ b) × (vertexAt result (next result e) ≡ a)) → On a b e
+      go (inl p) = (starts, p .0, ap (vertexAt result) (sym (result-next e)) ∙ p .1)
+      go (inr p) = (stops, ap (vertexAt result) (sym (result-next e)) ∙ p .1, p .0)
+
+  -- two uses of one new edge
+  module _ (a b e f : ℕ) (e-below : e < length (corners l)) (f-below : f < length (corners l)) (on-e : On a b e) (on-f : On a b f) where
+    abbrev s : Side
+    s = on-e .0
+
+    abbrev t : Side
+    t = on-f .0
+
+    ends-joined : Joined (Met (Crossing J l)) (cornerBy l e s) (cornerBy l f t)
+    ends-joined = new-joined (cornerBy l e s) (cornerBy l f t) (cornerBy-below l cornered e s e-below) (cornerBy-below l cornered f t f-below) (on-e .1 ∙ sym (on-f .1))
+
+    others-joined : Joined (Met (Crossing J l)) (cornerBy l e (opposite s)) (cornerBy l f (opposite t))
+    others-joined = new-joined (cornerBy l e (opposite s)) (cornerBy l f (opposite t)) (cornerBy-below l cornered e (opposite s) e-below) (cornerBy-below l cornered f (opposite t) f-below) (on-e .2 ∙ sym (on-f .2))
+
+    old-ends : Ends l e f
+    old-ends = sides-ends l e f s t (joined-vertex ends-joined) (joined-vertex others-joined)
+
+    two-ends : (e ≡ f → ⊥) → cornerBy l e s ≡ cornerBy l f t → ⊥
+    two-ends e≢f p = e≢f (corner-once l cornered e f s t e-below f-below p (joined-vertex others-joined))
+
+  three-uses : (a b e f g : ℕ) → e < f → f < g → g < length (corners l) → On a b e → On a b f → On a b g → ⊥
+  three-uses a b e f g e<f f<g g-below on-e on-f on-g =
+      three-free (crossing-meets J l cornered)
+      (crowded e (on-e .0) e-below (three-faces l cornered e f g e-below f-below g-below (old-ends a b f e f-below e-below on-f on-e) (old-ends a b g e g-below e-below on-g on-e) (omega arith) (omega arith) (omega arith)))
+      (crowded f (on-f .0) f-below (three-faces l cornered f e g f-below e-below g-below (old-ends a b e f e-below f-below on-e on-f) (old-ends a b g f g-below f-below on-g on-f) (omega arith) (omega arith) (omega arith)))
+      (crowded g (on-g .0) g-below (three-faces l cornered g e f g-below e-below f-below (old-ends a b e g e-below g-below on-e on-g) (old-ends a b f g f-below g-below on-f on-g) (omega arith) (omega arith) (omega arith)))
+      (ends-joined a b e f e-below f-below on-e on-f)
+      (ends-joined a b e g e-below g-below on-e on-g)
+      (two-ends a b f e f-below e-below on-f on-e (omega arith))
+      (two-ends a b g e g-below e-below on-g on-e (omega arith))
+      (two-ends a b g f g-below f-below on-g on-f (omega arith))
+    where
+      e-below : e < length (corners l)
+      e-below = omega arith
+
+      f-below : f < length (corners l)
+      f-below = omega arith
+
+  -- each edge of the result has at most two faces
+  pub result-edges : (a b : ℕ) → facesOn result a b ≤ 2
+  result-edges a b = rw (sharing-faces result a b) at (go (sharing result a b) (sharing-rises result a b) each)
+    where
+      each : (e : ℕ) → In e (sharing result a b) → (e < length (corners l)) × On a b e
+      each e i =
+          let r = in-sharing result a b e i in
+          let h : e < length (corners l) = omega (arith, r .0, uses-long result, result-corners) in
+          (h, on-edge-by a b e h (r .1))
+
+      go : (xs : List ℕ) → Rising 0 xs → ((e : ℕ) → In e xs → (e < length (corners l)) × On a b e) → length xs ≤ 2
+      go [] r each = omega arith
+      go (e ∷ []) r each = omega arith
+      go (e ∷ f ∷ []) r each = omega arith
+      go (e ∷ f ∷ g ∷ xs) r each =
+          let at-e = each e (inl refl) in
+          let at-f = each f (inr (inl refl)) in
+          let at-g = each g (inr (inr (inl refl))) in
+          absurd (three-uses a b e f g (omega arith) (omega arith) (at-g .0) (at-e .1) (at-f .1) (at-g .1))
+
+  -- the other ends of two uses that meet do too
+  crossing-opposite : {x y : ℕ} {s t : Side} (c : Crossing J l x s y t) → Crossing J l (cornerBy l (c .across .one) (opposite s)) (opposite s) (cornerBy l (c .across .two) (opposite t)) (opposite t)
+  crossing-opposite {x} {y} {s} {t} c =
+      let a = c .across in
+      let ends : Ends l (a .one) (a .two) = ends-back l (a .two) (a .one) (same-ends l (a .one) (a .two) (a .one-below) (a .two-below) (a .same-edge)) in
+      record {
+        across = record {
+          one = a .one;
+          two = a .two;
+          one-below = a .one-below;
+          two-below = a .two-below;
+          differ = a .differ;
+          same-edge = a .same-edge;
+          two-faces = a .two-faces;
+          x-is = refl;
+          y-is = refl;
+          same-vertex = ends-sides l cornered (a .one) (a .two) s t (a .two-below) ends (ap (vertexAt l) (sym (a .x-is)) ∙ a .same-vertex ∙ ap (vertexAt l) (a .y-is));
+        };
+        made = c .made;
+      }
+
+  -- corners that meet have the same new vertex
+  crossing-new : {x y : ℕ} {s t : Side} → Crossing J l x s y t → vertexAt result x ≡ vertexAt result y
+  crossing-new {x} {y} {s} {t} c =
+      let b = crossing-below J l cornered (c .across) in
+      joined-new x y (b .0) (b .1) (link (s, t, c))
+
+  -- corners that meet in the input meet in the result
+  crossing-result : {x y : ℕ} {s t : Side} → Crossing J l x s y t → Across result x s y t
+  crossing-result {x} {y} {s} {t} c =
+      let e = c .across .one in
+      let f = c .across .two in
+      let e-below : e < length (corners result) = rw result-corners (c .across .one-below) in
+      let f-below : f < length (corners result) = rw result-corners (c .across .two-below) in
+      let x-is : x ≡ cornerBy result e s = c .across .x-is ∙ sym (result-cornerBy e s) in
+      let y-is : y ≡ cornerBy result f t = c .across .y-is ∙ sym (result-cornerBy f t) in
+      let here : vertexAt result (cornerBy result f t) ≡ vertexAt result (cornerBy result e s) = ap (vertexAt result) (sym y-is) ∙ sym (crossing-new c) ∙ ap (vertexAt result) x-is in
+      let there : vertexAt result (cornerBy result f (opposite t)) ≡ vertexAt result (cornerBy result e (opposite s)) = ap (vertexAt result) (result-cornerBy f (opposite t)) ∙ sym (crossing-new (crossing-opposite c)) ∙ ap (vertexAt result) (sym (result-cornerBy e (opposite s))) in
+      let on : onEdge (useAt result e .from) (useAt result e .to) (useAt result f) ≡ true = ends-same result e f e-below f-below (sides-ends result f e t s here there) in
+      let a = useAt result e .from in
+      let b = useAt result e .to in
+      let both : 2 ≤ length (sharing result a b) = two-in e f (sharing result a b) (is-here result e (omega (arith, uses-long result))) (shares result a b f (omega (arith, uses-long result)) on) (c .across .differ) in
+      record {
+        one = e;
+        two = f;
+        one-below = e-below;
+        two-below = f-below;
+        differ = c .across .differ;
+        same-edge = on;
+        two-faces = omega (arith, result-edges a b, sharing-faces result a b);
+        x-is = x-is;
+        y-is = y-is;
+        same-vertex = crossing-new c;
+      }
+
+  -- round each vertex of the result there is one fan
+  pub result-fan : OneFan result
+  result-fan x y h k e =
+      joined-through (λ x y m. link (m .0, m .1, crossing-result (m .2)))
+      (new-joined x y (omega (arith, result-corners)) (omega (arith, result-corners)) e)
