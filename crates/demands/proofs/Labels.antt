@@ -12,6 +12,7 @@ use lib.ListN.{length, getD, length-map, List·getD-map, List·getD-eq-default}
 use Rattle.edges.proofs.Lists.{In}
 use Rattle.cut.specs.Groups.{Link, countFrom, upTo, replaced, merge, mergeAll, labelsOf}
 use Rattle.demands.specs.Joined.{Joined, link, same, back, chain}
+use Rattle.demands.specs.Labelling.{labelAt}
 use Rattle.demands.proofs.Equivalence.{joined-equal}
 
 -- x and y are the two corners of a link of ks
@@ -141,10 +142,6 @@ steps-joining c R f (k ∷ ks) below j = steps-joining c R (step f k) ks (λ k m
         go (inl p) = j x y x<c y<c p
         go (inr (inl p)) = chain (j x (k .one) x<c (this .1) (p .0)) (chain (link (this .0)) (j (k .two) y (this .2) y<c (sym (p .1))))
         go (inr (inr p)) = chain (j x (k .two) x<c (this .2) (p .0)) (chain (back (link (this .0))) (j (k .one) y (this .1) y<c (sym (p .1))))
-
--- the label of corner x
-abbrev pub labelAt : List ℕ → ℕ → ℕ
-labelAt labels x = getD labels x 0
 
 merge-is : (labels : List ℕ) (k : Link) (x : ℕ) → labelAt (merge labels k) x ≡ step (labelAt labels) k x
 merge-is labels k x = ap (getD (merge labels k) x) (sym past) ∙ List·getD-map (replaced (large f k) (small f k)) labels x 0

@@ -9,3 +9,4 @@ pub mod Crossing
 pub mod Links
 pub mod Shape
 pub mod Result
+pub mod Fewest

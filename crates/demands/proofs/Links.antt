@@ -18,9 +18,10 @@ use Rattle.cut.specs.Groups.{Link, linksOf, noUse, linksAt, linksFrom, links, g
 use Rattle.demands.specs.Joined.{Joined, link, Side, starts, stops, opposite}
 use Rattle.demands.specs.Renumbered.{vertexAt}
 use Rattle.demands.specs.Linked.{useAt, cornerBy, Across}
+use Rattle.demands.specs.Labelling.{labelAt}
 use Rattle.demands.proofs.Equivalence.{joined-equal}
 use Rattle.demands.proofs.Walk.{Met}
-use Rattle.demands.proofs.Labels.{Linking, Below, labelAt, label-joined, joined-label}
+use Rattle.demands.proofs.Labels.{Linking, Below, label-joined, joined-label}
 use Rattle.demands.proofs.Corners.{next, Cornered}
 use Rattle.demands.proofs.Crossing.{Ends, use-from, use-to, same-ends, ends-back, ends-sides, two-only, cornerBy-below, joins, Crossing, across-back}
 

@@ -13,7 +13,7 @@ use Rattle.list.specs.Faces.{isEnd, corners, num, vertices}
 use Rattle.edges.proofs.Lists.{In}
 use Rattle.cut.specs.Renumber.{distinct, placeIn, newNumbers, refilled, newListOf, newVertices, mapOf}
 use Rattle.demands.specs.Renumbered.{vertexAt, ends, mapped, FirstUse}
-use Rattle.demands.proofs.Labels.{labelAt}
+use Rattle.demands.specs.Labelling.{labelAt}
 use Rattle.demands.proofs.Distinct.{distinct-has, distinct-of, distinct-different, place-below, place-holds, place-at, in-at, distinct-order}
 
 pub getD-mapped : {A B : Type 0} (f : A → B) (xs : List A) (i : ℕ) (d : A) (b : B) → i < length xs → getD (map f xs) i b ≡ f (getD xs i d)

@@ -21,7 +21,7 @@ use Rattle.demands.specs.Renumbered.{vertexAt}
 use Rattle.demands.specs.Linked.{useAt, cornerBy, Across, Linked, OneFan}
 use Rattle.demands.proofs.Equivalence.{joined-equal, joined-through}
 use Rattle.demands.proofs.Walk.{Free, Met, three-free}
-use Rattle.demands.proofs.Labels.{labelAt, labels-length}
+use Rattle.demands.proofs.Labels.{labels-length}
 use Rattle.demands.proofs.Distinct.{two-in}
 use Rattle.demands.proofs.Numbering.{new-ends, new-corners-length, new-vertex, same-number, same-label, Refines}
 use Rattle.demands.proofs.Corners.{next, Cornered, valid-cornered, corner-entry}

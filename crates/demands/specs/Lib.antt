@@ -1,3 +1,4 @@
 pub mod Joined
 pub mod Renumbered
 pub mod Linked
+pub mod Labelling

@@ -1,0 +1,85 @@
+-- The cut at every regular edge: its groups are what the links of the list join, and every labelling that a cut could make has at least
+-- as many labels, for each of its labels lies within one group.
+use Prim.Native.Nat.{ℕ, _≤_, _<_}
+use mathlib.Core.Path.{_≡_, refl, sym, _∙_, ap}
+use mathlib.Core.Bool.{Bool, true, false, cond}
+use mathlib.Core.List.{List}
+use mathlib.Core.Logic.{_↔_}
+use native.Mathlib.Omega.{arith}
+use lib.Dec.{ltb}
+use lib.IntN.{ℤ}
+use lib.ListN.{length, getD}
+use Rattle.list.specs.Faces.{corners}
+use Rattle.list.specs.Check.{Valid}
+use Rattle.edges.specs.Uses.{uses}
+use Rattle.edges.proofs.Lists.{In}
+use Rattle.cut.specs.Groups.{everyEdge, groupsOfUses}
+use Rattle.cut.specs.Renumber.{distinct, placeIn, newVertices}
+use Rattle.demands.specs.Joined.{Joined, link}
+use Rattle.demands.specs.Linked.{Linked}
+use Rattle.demands.specs.Labelling.{labelAt, Labelling, labelCount}
+use Rattle.demands.proofs.Equivalence.{joined-through}
+use Rattle.demands.proofs.Walk.{Met}
+use Rattle.demands.proofs.Distinct.{distinct-has, distinct-of, distinct-different, in-at, place-below, place-holds, onto-fit, onto-exact}
+use Rattle.demands.proofs.Crossing.{joins, Crossing}
+use Rattle.demands.proofs.Links.{group-joined, joined-group}
+use Rattle.demands.proofs.Result.{groups, groups-length, cornered}
+
+module _ (l : List ℤ) where
+  pub linked-met : {x y : ℕ} → Linked l x y → Met (Crossing everyEdge l) x y
+  linked-met m = (m .0, m .1, record { across = m .2; made = either (ltb (m .2 .one) (m .2 .two)) })
+    where
+      either : (b : Bool) → cond b true true ≡ true
+      either true = refl
+      either false = refl
+
+  pub joined-linked : {x y : ℕ} → Joined (Met (Crossing everyEdge l)) x y → Joined (Linked l) x y
+  joined-linked = joined-through (λ x y m. link (m .0, m .1, m .2 .across))
+
+  pub linked-joined : {x y : ℕ} → Joined (Linked l) x y → Joined (Met (Crossing everyEdge l)) x y
+  linked-joined = joined-through (λ x y m. link (linked-met m))
+
+module _ (l : List ℤ) (n : ℕ) (v : Valid l n) where
+  abbrev fans : List ℕ
+  fans = groups everyEdge l n v
+
+  fan-joined : (x y : ℕ) → x < length (corners l) → y < length (corners l) → labelAt fans x ≡ labelAt fans y → Joined (Linked l) x y
+  fan-joined x y h k e = joined-linked l (group-joined everyEdge l (cornered everyEdge l n v) x y h k e)
+
+  joined-fan : {x y : ℕ} → Joined (Linked l) x y → labelAt fans x ≡ labelAt fans y
+  joined-fan j = joined-group everyEdge l (cornered everyEdge l n v) (linked-joined l j)
+
+  module _ (labels : List ℕ) (labelling : Labelling l labels) where
+    -- the group within which a label lies, by the label's earliest corner
+    fan-of : ℕ → ℕ
+    fan-of k = labelAt fans (placeIn k labels)
+
+    -- corners of one label are in one group
+    label-fan : (x y : ℕ) → x < length (corners l) → y < length (corners l) → labelAt labels x ≡ labelAt labels y → labelAt fans x ≡ labelAt fans y
+    label-fan x y h k e = joined-fan (joined-through (λ p q m. link (m .0)) (labelling .linked x y h k e))
+
+    within : (x : ℕ) → x < length (corners l) → fan-of (labelAt labels x) ≡ labelAt fans x
+    unfolding fan-of
+    within x h =
+        let i : In (labelAt labels x) labels = in-at labels x (omega (arith, labelling .one-each)) in
+        label-fan (placeIn (labelAt labels x) labels) x (omega (arith, place-below (labelAt labels x) labels i, labelling .one-each)) h (place-holds (labelAt labels x) labels i)
+
+    every-fan : (g : ℕ) → In g (distinct fans) → (d : ℕ) × In d (distinct labels) × (fan-of d ≡ g)
+    every-fan g i =
+        let j : In g fans = distinct-of g fans i in
+        let x = placeIn g fans in
+        let h : x < length (corners l) = omega (arith, place-below g fans j, groups-length everyEdge l n v) in
+        (labelAt labels x, distinct-has (labelAt labels x) labels (in-at labels x (omega (arith, labelling .one-each))), within x h ∙ place-holds g fans j)
+
+    pub fewest : newVertices fans ≤ labelCount labels
+    fewest = onto-fit fan-of (distinct labels) (distinct fans) (distinct-different fans) every-fan
+
+    pub fewest-same : labelCount labels ≡ newVertices fans → (x y : ℕ) → x < length (corners l) → y < length (corners l) → (labelAt labels x ≡ labelAt labels y) ↔ (labelAt fans x ≡ labelAt fans y)
+    fewest-same as-few x y h k = (
+      label-fan x y h k,
+      λ e.
+          onto-exact fan-of (distinct labels) (distinct fans) (distinct-different fans) every-fan (omega arith) (labelAt labels x) (labelAt labels y)
+          (distinct-has (labelAt labels x) labels (in-at labels x (omega (arith, labelling .one-each))))
+          (distinct-has (labelAt labels y) labels (in-at labels y (omega (arith, labelling .one-each))))
+          (within x h ∙ e ∙ sym (within y k)),
+    )
