@@ -40,13 +40,13 @@ module _ (l : List ℤ) where
   linked-joined = joined-through (λ x y m. link (linked-met m))
 
 module _ (l : List ℤ) (n : ℕ) (v : Valid l n) where
-  abbrev fans : List ℕ
+  abbrev pub fans : List ℕ
   fans = groups everyEdge l n v
 
-  fan-joined : (x y : ℕ) → x < length (corners l) → y < length (corners l) → labelAt fans x ≡ labelAt fans y → Joined (Linked l) x y
+  pub fan-joined : (x y : ℕ) → x < length (corners l) → y < length (corners l) → labelAt fans x ≡ labelAt fans y → Joined (Linked l) x y
   fan-joined x y h k e = joined-linked l (group-joined everyEdge l (cornered everyEdge l n v) x y h k e)
 
-  joined-fan : {x y : ℕ} → Joined (Linked l) x y → labelAt fans x ≡ labelAt fans y
+  pub joined-fan : {x y : ℕ} → Joined (Linked l) x y → labelAt fans x ≡ labelAt fans y
   joined-fan j = joined-group everyEdge l (cornered everyEdge l n v) (linked-joined l j)
 
   module _ (labels : List ℕ) (labelling : Labelling l labels) where

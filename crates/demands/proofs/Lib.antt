@@ -10,3 +10,4 @@ pub mod Links
 pub mod Shape
 pub mod Result
 pub mod Fewest
+pub mod Classes

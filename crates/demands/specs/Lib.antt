@@ -2,3 +2,4 @@ pub mod Joined
 pub mod Renumbered
 pub mod Linked
 pub mod Labelling
+pub mod Classed

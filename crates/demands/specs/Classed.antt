@@ -1,0 +1,34 @@
+-- What the classes say of a vertex, in the words of document 01 ("Edges, fans and classes", 3).
+--
+--   Standalone l v      v has no face
+--   EndsSingular l v    v is an endpoint of a singular edge
+--   EndsBoundary l v    v is an endpoint of a boundary edge
+--   ManyFans l v        v has more than one fan: two of its corners are joined by no links
+use Prim.Native.Nat.{ℕ, _≤_, _<_}
+use mathlib.Core.Path.{_≡_}
+use mathlib.Core.List.{List}
+use lib.IntN.{ℤ}
+use lib.ListN.{length}
+use Rattle.list.specs.Faces.{corners}
+use Rattle.edges.specs.Uses.{facesOn}
+use Rattle.demands.specs.Joined.{Joined}
+use Rattle.demands.specs.Renumbered.{vertexAt}
+use Rattle.demands.specs.Linked.{Linked}
+
+abbrev pub Standalone : List ℤ → ℕ → Type 0
+Standalone l v = (x : ℕ) → x < length (corners l) → vertexAt l x ≡ v → ⊥
+
+abbrev pub EndsSingular : List ℤ → ℕ → Type 0
+EndsSingular l v = (w : ℕ) × (3 ≤ facesOn l v w)
+
+abbrev pub EndsBoundary : List ℤ → ℕ → Type 0
+EndsBoundary l v = (w : ℕ) × (facesOn l v w ≡ 1)
+
+pub record ManyFans (l : List ℤ) (v : ℕ) : Type 0 where
+  pub one : ℕ
+  pub two : ℕ
+  pub one-below : one < length (corners l)
+  pub two-below : two < length (corners l)
+  pub one-on : vertexAt l one ≡ v
+  pub two-on : vertexAt l two ≡ v
+  pub apart : Joined (Linked l) one two → ⊥
