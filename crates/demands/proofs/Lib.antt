@@ -11,3 +11,4 @@ pub mod Shape
 pub mod Result
 pub mod Fewest
 pub mod Classes
+pub mod Counts

@@ -3,3 +3,4 @@ pub mod Renumbered
 pub mod Linked
 pub mod Labelling
 pub mod Classed
+pub mod Counted
