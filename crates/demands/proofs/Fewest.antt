@@ -16,9 +16,10 @@ use Rattle.edges.proofs.Lists.{In}
 use Rattle.cut.specs.Groups.{everyEdge, groupsOfUses}
 use Rattle.cut.specs.Renumber.{distinct, placeIn, newVertices}
 use Rattle.demands.specs.Joined.{Joined, link}
+use Rattle.demands.specs.Renumbered.{vertexAt}
 use Rattle.demands.specs.Linked.{Linked}
 use Rattle.demands.specs.Labelling.{labelAt, Labelling, labelCount}
-use Rattle.demands.proofs.Equivalence.{joined-through}
+use Rattle.demands.proofs.Equivalence.{joined-equal, joined-through, joined-within}
 use Rattle.demands.proofs.Walk.{Met}
 use Rattle.demands.proofs.Distinct.{distinct-has, distinct-of, distinct-different, in-at, place-below, place-holds, onto-fit, onto-exact}
 use Rattle.demands.proofs.Crossing.{joins, Crossing}
@@ -83,3 +84,11 @@ module _ (l : List ℤ) (n : ℕ) (v : Valid l n) where
           (distinct-has (labelAt labels y) labels (in-at labels y (omega (arith, labelling .one-each))))
           (within x h ∙ e ∙ sym (within y k)),
     )
+
+  -- the groups themselves are such a labelling
+  pub fans-labelling : Labelling l fans
+  fans-labelling = record {
+    one-each = groups-length everyEdge l n v;
+    one-vertex = λ x y h k e. joined-equal (vertexAt l) (λ p q m. m .2 .same-vertex) (fan-joined x y h k e);
+    linked = λ x y h k e. joined-within (labelAt fans) (λ p q m. joined-fan (link m)) (fan-joined x y h k e);
+  }

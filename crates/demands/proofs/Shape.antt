@@ -14,6 +14,7 @@ use lib.ListN.{length, getD, length-map, length-append, List·getD-map, List·ge
 use lib.Seq.{getD-append-add}
 use Rattle.list.specs.Faces.{isEnd, push, runs, corners, num, vertices}
 use Rattle.list.specs.Check.{ValidFace, Valid}
+use Rattle.list.proofs.Checking.{corners-fit}
 use Rattle.edges.specs.Uses.{Use, usesToEnd, usesOfFace, usesFrom, uses}
 use Rattle.edges.specs.Table.{nextWords}
 use Rattle.edges.proofs.Lists.{map-append}
@@ -96,14 +97,6 @@ face-corners (r ∷ rs) (suc k) i h b =
     let ih = face-corners rs k i (omega arith) b in
     rw add-assoc (omega (arith, ih .0, length-append r (joined rs)), getD-append-add r (joined rs) (offset (lengths rs) k + i) (pos 0) ∙ ih .1)
 
-corners-few : (l : List ℤ) → length (corners l) ≤ length l
-corners-few [] = omega arith
-corners-few (x ∷ xs) = go (isEnd x) (corners-few xs)
-  where
-    go : (b : Bool) → length (corners xs) ≤ length xs → length (cond b (corners xs) (x ∷ corners xs)) ≤ suc (length xs)
-    go true h = omega arith
-    go false h = omega arith
-
 module _ (l : List ℤ) (n : ℕ) (v : Valid l n) (labels : List ℕ) (same : length labels ≡ length (corners l)) where
   abbrev new : List ℤ
   new = newListOf l labels
@@ -155,6 +148,6 @@ module _ (l : List ℤ) (n : ℕ) (v : Valid l n) (labels : List ℕ) (same : le
   pub new-valid : Refines l labels same → Valid new (newVertices labels)
   new-valid refines = record {
     few-entries = rw new-length (v .few-entries);
-    few-vertices = omega (arith, new-few, corners-few l, v .few-entries);
+    few-vertices = omega (arith, new-few, corners-fit l, v .few-entries);
     each-face = λ k h. face-valid k h refines;
   }
