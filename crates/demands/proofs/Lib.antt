@@ -12,3 +12,4 @@ pub mod Result
 pub mod Fewest
 pub mod Classes
 pub mod Counts
+pub mod Only

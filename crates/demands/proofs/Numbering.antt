@@ -188,10 +188,13 @@ module _ (l : List ℤ) (labels : List ℕ) (same : length labels ≡ length (co
       refilled-back (mapOf l labels) l (newNumbers labels) numbers-fit
       (λ x h. map-entry x h ∙ refines (earliest x h) x (omega (arith, earliest-below x h)) h (earliest-label x h))
 
-  pub back-map : mapped (mapOf l labels) (newListOf l labels) ≡ l → Refines
+  -- a map that gives the list back gives each corner's entry for its new vertex
+  pub back-number : (m : List ℤ) → mapped m (newListOf l labels) ≡ l → (x : ℕ) → x < length (corners l) → getD m (getD (newNumbers labels) x 0) (pos 0) ≡ getD (corners l) x (pos 0)
   unfolding newListOf
+  back-number m e = back-refilled m l (newNumbers labels) numbers-fit e
+
+  pub back-map : mapped (mapOf l labels) (newListOf l labels) ≡ l → Refines
   back-map e x y x-below y-below p =
-      let back = back-refilled (mapOf l labels) l (newNumbers labels) numbers-fit e in
-      sym (back x x-below) ∙
+      sym (back-number (mapOf l labels) e x x-below) ∙
       ap (λ (k : ℕ). getD (mapOf l labels) k (pos 0)) (same-number labels x y (omega arith) (omega arith) p) ∙
-      back y y-below
+      back-number (mapOf l labels) e y y-below
