@@ -68,7 +68,7 @@ row-same : (s m : ℕ) → countFrom s m ≡ upFrom s m
 row-same s zero = refl
 row-same s (suc m) = ap (λ (xs : List ℕ). s ∷ xs) (row-same (suc s) m)
 
-class-few : (l : List ℤ) (v : ℕ) → classOf l v ≤ 4
+pub class-few : (l : List ℤ) (v : ℕ) → classOf l v ≤ 4
 unfolding classOf
 class-few l v = go (hasFace (uses l) v) (endsEdge isSingular (uses l) v) (ltb 1 (fansAt l v)) (endsEdge isBoundary (uses l) v)
   where

@@ -13,3 +13,4 @@ pub mod Fewest
 pub mod Classes
 pub mod Counts
 pub mod Only
+pub mod Demands

@@ -4,3 +4,4 @@ pub mod Linked
 pub mod Labelling
 pub mod Classed
 pub mod Counted
+pub mod Cutting
