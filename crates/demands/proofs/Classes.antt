@@ -5,7 +5,7 @@ use mathlib.Core.Bool.{Bool, true, false, cond, _&&_, _||_, true≢false, false�
 use mathlib.Core.List.{List, [], _∷_}
 use mathlib.Core.Logic.{_⊎_, inl, inr, ⊎-elim, _↔_}
 use native.Mathlib.Omega.{arith}
-use borrow.Author.Tests.{eqb-true, eqb-false, eq-eqb, ltb-true, ltb-false, lt-ltb, leb-true, le-leb}
+use borrow.Author.Tests.{eqb-true, eq-eqb, ltb-true, lt-ltb, leb-true, le-leb}
 use lib.Dec.{eqb, ltb}
 use lib.IntN.{ℤ}
 use lib.ListN.{length, getD}
@@ -14,17 +14,16 @@ use Rattle.list.specs.Check.{Valid}
 use Rattle.edges.specs.Choose.{choose}
 use Rattle.edges.specs.Uses.{Use, uses, lo, hi, usesOn, facesOn, onEdge, isBoundary, isSingular}
 use Rattle.edges.proofs.Lists.{In}
-use Rattle.edges.proofs.Uses.{noUse, uses-long, from-at, to-next, next-below}
+use Rattle.edges.proofs.Uses.{noUse, uses-long, from-at, next-below}
 use Rattle.edges.proofs.Faces.{and-true}
 use Rattle.edges.proofs.Mates.{sharing, sharing-faces, sharing-same, in-sharing}
 use Rattle.cut.specs.Groups.{everyEdge, groupsOfUses, fanLabels}
 use Rattle.cut.specs.Renumber.{distinct}
 use Rattle.cut.specs.Classes.{touches, endsEdgeOf, endsEdge, hasFace, labelsAt, fansAt, classOf}
-use Rattle.demands.specs.Joined.{Joined}
 use Rattle.demands.specs.Renumbered.{vertexAt}
-use Rattle.demands.specs.Linked.{useAt, Linked}
+use Rattle.demands.specs.Linked.{useAt, OneFan}
 use Rattle.demands.specs.Labelling.{labelAt}
-use Rattle.demands.specs.Classed.{Standalone, EndsSingular, EndsBoundary, ManyFans}
+use Rattle.demands.specs.Classed.{Used, Standalone, EndsSingular, EndsBoundary, ManyFans}
 use Rattle.demands.proofs.Distinct.{Different, distinct-has, distinct-of, distinct-different, two-in}
 use Rattle.demands.proofs.Corners.{next}
 use Rattle.demands.proofs.Crossing.{use-from, use-to, edge-vertices}
@@ -77,15 +76,15 @@ faces-turned l a b =
     ap₂ (λ (p q : ℕ). length (choose (λ (u : Use). eqb (lo u) p && eqb (hi u) q) (uses l))) low high
 
 module _ (l : List ℤ) (v : ℕ) where
-  has-face : hasFace (uses l) v ≡ true → (x : ℕ) × (x < length (corners l)) × (vertexAt l x ≡ v)
+  has-face : hasFace (uses l) v ≡ true → Used l v
   has-face e =
       let r = some-found (λ (u : Use). eqb v (u .from)) noUse (uses l) (sym (hasFace-some (uses l) v) ∙ e) in
       (r .0, omega (arith, r .1, uses-long l), sym (from-at l (r .0)) ∙ sym (eqb-true v (useAt l (r .0) .from) (r .2)))
 
-  face-has : (x : ℕ) → x < length (corners l) → vertexAt l x ≡ v → hasFace (uses l) v ≡ true
-  face-has x h e =
+  face-has : Used l v → hasFace (uses l) v ≡ true
+  face-has r =
       hasFace-some (uses l) v ∙
-      some-holds (λ (u : Use). eqb v (u .from)) noUse (uses l) x (omega (arith, uses-long l)) (eq-eqb v (useAt l x .from) (sym e ∙ sym (from-at l x)))
+      some-holds (λ (u : Use). eqb v (u .from)) noUse (uses l) (r .0) (omega (arith, r .1, uses-long l)) (eq-eqb v (useAt l (r .0) .from) (sym (r .2) ∙ sym (from-at l (r .0))))
 
   -- a use of an edge at v
   use-at : (w : ℕ) → 0 < facesOn l v w → (e : ℕ) × (e < length (corners l)) × (onEdge v w (useAt l e) ≡ true)
@@ -98,7 +97,7 @@ module _ (l : List ℤ) (v : ℕ) where
           let r = in-sharing l v w e i in
           (e, omega (arith, r .0, uses-long l), r .1)
 
-  corner-at-edge : (w : ℕ) → 0 < facesOn l v w → (x : ℕ) × (x < length (corners l)) × (vertexAt l x ≡ v)
+  corner-at-edge : (w : ℕ) → 0 < facesOn l v w → Used l v
   corner-at-edge w h =
       let r = use-at w h in
       let e = r .0 in
@@ -223,17 +222,13 @@ module _ (l : List ℤ) (n : ℕ) (valid : Valid l n) (v : ℕ) where
   found-boundary : EndsBoundary l v → endsEdge isBoundary (uses l) v ≡ true
   found-boundary r = edge-ends l v isBoundary refl (r .0) (eq-eqb (facesOn l v (r .0)) 1 (r .1))
 
-  -- v has a face
-  abbrev Used : Type 0
-  Used = (x : ℕ) × (x < length (corners l)) × (vertexAt l x ≡ v)
-
-  singular-used : EndsSingular l v → Used
+  singular-used : EndsSingular l v → Used l v
   singular-used r = corner-at-edge l v (r .0) (omega (arith, r .1))
 
-  boundary-used : EndsBoundary l v → Used
+  boundary-used : EndsBoundary l v → Used l v
   boundary-used r = corner-at-edge l v (r .0) (omega (arith, r .1))
 
-  many-used : ManyFans l v → Used
+  many-used : ManyFans l v → Used l v
   many-used m = (m .one, m .one-below, m .one-on)
 
   -- the classes, each with what it says
@@ -242,7 +237,7 @@ module _ (l : List ℤ) (n : ℕ) (valid : Valid l n) (v : ℕ) where
     singular : k ≡ 3 → EndsSingular l v → Verdict k
     isolated : k ≡ 4 → (EndsSingular l v → ⊥) → ManyFans l v → Verdict k
     boundary : k ≡ 2 → (EndsSingular l v → ⊥) → (ManyFans l v → ⊥) → EndsBoundary l v → Verdict k
-    inner : k ≡ 1 → Used → (EndsSingular l v → ⊥) → (ManyFans l v → ⊥) → (EndsBoundary l v → ⊥) → Verdict k
+    inner : k ≡ 1 → Used l v → (EndsSingular l v → ⊥) → (ManyFans l v → ⊥) → (EndsBoundary l v → ⊥) → Verdict k
 
   refuted : {A : Type 0} (b : Bool) → b ≡ false → (A → b ≡ true) → A → ⊥
   refuted b p f a = true≢false (sym (f a) ∙ p)
@@ -252,7 +247,7 @@ module _ (l : List ℤ) (n : ℕ) (valid : Valid l n) (v : ℕ) where
   verdict = go (hasFace (uses l) v) refl (endsEdge isSingular (uses l) v) refl (ltb 1 (fansAt l v)) refl (endsEdge isBoundary (uses l) v) refl
     where
       go : (f : Bool) → hasFace (uses l) v ≡ f → (s : Bool) → endsEdge isSingular (uses l) v ≡ s → (m : Bool) → ltb 1 (fansAt l v) ≡ m → (b : Bool) → endsEdge isBoundary (uses l) v ≡ b → Verdict (cond f (cond s 3 (cond m 4 (cond b 2 1))) 0)
-      go false f s p m q b r = standalone refl (λ x h e. true≢false (sym (face-has l v x h e) ∙ f))
+      go false f s p m q b r = standalone refl (refuted _ f (face-has l v))
       go true f true p m q b r = singular refl (singular-found p)
       go true f false p true q b r = isolated refl (refuted _ p found-singular) (many-fans q)
       go true f false p false q true r = boundary refl (refuted _ p found-singular) (refuted _ q fans-many) (boundary-found r)
@@ -263,16 +258,16 @@ module _ (l : List ℤ) (n : ℕ) (valid : Valid l n) (v : ℕ) where
     where
       go : {k : ℕ} → Verdict k → (k ≡ 0) ↔ Standalone l v
       go (standalone p a) = (λ e. a, λ s. p)
-      go (singular p a) = (λ e. absurd (omega arith), λ s. let x = singular-used a in absurd (s (x .0) (x .1) (x .2)))
-      go (isolated p n a) = (λ e. absurd (omega arith), λ s. let x = many-used a in absurd (s (x .0) (x .1) (x .2)))
-      go (boundary p n m a) = (λ e. absurd (omega arith), λ s. let x = boundary-used a in absurd (s (x .0) (x .1) (x .2)))
-      go (inner p x n m b) = (λ e. absurd (omega arith), λ s. absurd (s (x .0) (x .1) (x .2)))
+      go (singular p a) = (λ e. absurd (omega arith), λ s. absurd (s (singular-used a)))
+      go (isolated p n a) = (λ e. absurd (omega arith), λ s. absurd (s (many-used a)))
+      go (boundary p n m a) = (λ e. absurd (omega arith), λ s. absurd (s (boundary-used a)))
+      go (inner p x n m b) = (λ e. absurd (omega arith), λ s. absurd (s x))
 
   pub class-singular : (classOf l v ≡ 3) ↔ EndsSingular l v
   class-singular = go verdict
     where
       go : {k : ℕ} → Verdict k → (k ≡ 3) ↔ EndsSingular l v
-      go (standalone p a) = (λ e. absurd (omega arith), λ s. let x = singular-used s in absurd (a (x .0) (x .1) (x .2)))
+      go (standalone p a) = (λ e. absurd (omega arith), λ s. absurd (a (singular-used s)))
       go (singular p a) = (λ e. a, λ s. p)
       go (isolated p n a) = (λ e. absurd (omega arith), λ s. absurd (n s))
       go (boundary p n m a) = (λ e. absurd (omega arith), λ s. absurd (n s))
@@ -282,7 +277,7 @@ module _ (l : List ℤ) (n : ℕ) (valid : Valid l n) (v : ℕ) where
   class-isolated = go verdict
     where
       go : {k : ℕ} → Verdict k → (k ≡ 4) ↔ ((EndsSingular l v → ⊥) × ManyFans l v)
-      go (standalone p a) = (λ e. absurd (omega arith), λ s. let x = many-used (s .1) in absurd (a (x .0) (x .1) (x .2)))
+      go (standalone p a) = (λ e. absurd (omega arith), λ s. absurd (a (many-used (s .1))))
       go (singular p a) = (λ e. absurd (omega arith), λ s. absurd (s .0 a))
       go (isolated p n a) = (λ e. (n, a), λ s. p)
       go (boundary p n m a) = (λ e. absurd (omega arith), λ s. absurd (m (s .1)))
@@ -292,7 +287,7 @@ module _ (l : List ℤ) (n : ℕ) (valid : Valid l n) (v : ℕ) where
   class-boundary = go verdict
     where
       go : {k : ℕ} → Verdict k → (k ≡ 2) ↔ ((EndsSingular l v → ⊥) × (ManyFans l v → ⊥) × EndsBoundary l v)
-      go (standalone p a) = (λ e. absurd (omega arith), λ s. let x = boundary-used (s .2) in absurd (a (x .0) (x .1) (x .2)))
+      go (standalone p a) = (λ e. absurd (omega arith), λ s. absurd (a (boundary-used (s .2))))
       go (singular p a) = (λ e. absurd (omega arith), λ s. absurd (s .0 a))
       go (isolated p n a) = (λ e. absurd (omega arith), λ s. absurd (s .1 a))
       go (boundary p n m a) = (λ e. (n, m, a), λ s. p)
@@ -306,4 +301,15 @@ module _ (l : List ℤ) (n : ℕ) (valid : Valid l n) (v : ℕ) where
       go (singular p a) = (λ e. absurd (omega arith), λ s. absurd (s .1 a))
       go (isolated p n a) = (λ e. absurd (omega arith), λ s. absurd (s .2 a))
       go (boundary p n m a) = (λ e. absurd (omega arith), λ s. absurd (s .3 a))
-      go (inner p x n m b) = (λ e. (λ s. s (x .0) (x .1) (x .2), n, m, b), λ s. p)
+      go (inner p x n m b) = (λ e. (λ s. s x, n, m, b), λ s. p)
+
+  -- with at most two faces an edge and one fan a vertex there are classes 1 and 2 only
+  pub class-regular : ((a b : ℕ) → facesOn l a b ≤ 2) → OneFan l → Used l v → (classOf l v ≡ 1) ⊎ (classOf l v ≡ 2)
+  class-regular few fan used = go verdict
+    where
+      go : {k : ℕ} → Verdict k → (k ≡ 1) ⊎ (k ≡ 2)
+      go (standalone p a) = absurd (a used)
+      go (singular p a) = absurd (omega (arith, few v (a .0), a .1))
+      go (isolated p n a) = absurd (a .apart (fan (a .one) (a .two) (a .one-below) (a .two-below) (a .one-on ∙ sym (a .two-on))))
+      go (boundary p n m a) = inr p
+      go (inner p x n m b) = inl p

@@ -19,7 +19,7 @@ use Rattle.list.specs.Faces.{runs, num, vertices, corners}
 use Rattle.list.specs.Check.{ValidFace, Valid}
 use Rattle.edges.specs.Uses.{Use, usesOfFace, usesFrom, uses}
 use Rattle.edges.proofs.Uses.{noUse, use-in, joined, corners-joined, nextIn, next-inside, uses-face-long, uses-long, from-at, to-next, next-below}
-use Rattle.edges.proofs.Faces.{Proper, use-proper, vertex-once, face-long}
+use Rattle.edges.proofs.Faces.{use-proper, vertex-once, face-long}
 use Rattle.demands.specs.Renumbered.{vertexAt}
 use Rattle.demands.specs.Linked.{useAt}
 use Rattle.demands.proofs.Distinct.{equal-or-not}

@@ -14,8 +14,7 @@ use lib.Dec.{ltb}
 use lib.IntN.{ℤ}
 use lib.ListN.{length}
 use Rattle.list.specs.Faces.{corners}
-use Rattle.edges.specs.Uses.{Use, uses, onEdge, facesOn}
-use Rattle.edges.proofs.Lists.{In}
+use Rattle.edges.specs.Uses.{Use, onEdge, facesOn}
 use Rattle.edges.proofs.Uses.{uses-long, from-at, to-next}
 use Rattle.edges.proofs.Faces.{on-edge, edge-on}
 use Rattle.edges.proofs.Mates.{sharing, sharing-faces, sharing-same, shares, is-here}

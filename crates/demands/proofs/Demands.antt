@@ -4,8 +4,7 @@ use Prim.Native.Nat.{ℕ, _≤_, _<_}
 use mathlib.Core.Path.{_≡_, refl, sym, _∙_, ap}
 use mathlib.Core.Bool.{Bool}
 use mathlib.Core.List.{List}
-use mathlib.Core.Logic.{_↔_, _⊎_, inl, inr, ⊎-elim}
-use native.Mathlib.Omega.{arith}
+use mathlib.Core.Logic.{_↔_, _⊎_}
 use lib.IntN.{ℤ, pos}
 use lib.ListN.{length, getD}
 use Rattle.list.specs.Faces.{corners, runs}
@@ -22,11 +21,10 @@ use Rattle.demands.specs.Joined.{Joined}
 use Rattle.demands.specs.Renumbered.{vertexAt, ends, mapped, FirstUse}
 use Rattle.demands.specs.Linked.{Linked, OneFan}
 use Rattle.demands.specs.Labelling.{labelAt, Labelling, labelCount}
-use Rattle.demands.specs.Classed.{Standalone, EndsSingular, EndsBoundary, ManyFans}
+use Rattle.demands.specs.Classed.{Used, Standalone, EndsSingular, EndsBoundary, ManyFans}
 use Rattle.demands.specs.Counted.{Counted, SingularEdge, SingularVertex}
 use Rattle.demands.specs.Cutting.{Accepted, newList, newMap, newCount}
 use Rattle.demands.proofs.Equivalence.{joined-least, joined-equal}
-use Rattle.demands.proofs.Distinct.{equal-or-not}
 use Rattle.demands.proofs.Numbering as Numbering
 use Rattle.demands.proofs.Corners.{corner-entry}
 use Rattle.demands.proofs.Result as Result
@@ -52,20 +50,20 @@ module _ (l : List ℤ) (n : ℕ) (accepted : Accepted l n) where
   -- "replacing each new index by its map entry gives the input entry for entry"
   pub map-gives-back : mapped (newMap l) (newList l) ≡ l
   unfolding groupLabels
-  map-gives-back = Numbering.map-back l (groupLabels l) groups-length (Result.groups-refine everyEdge l n valid)
+  map-gives-back = Numbering.map-back l (groupLabels l) groups-length .1 (Result.groups-refine everyEdge l n valid)
 
   -- "new numbers in the order of first use"
   pub numbered-by-first-use : FirstUse (newList l)
   numbered-by-first-use = Numbering.first-use l (groupLabels l) groups-length
 
-  -- the new vertices are those of the new corners, and the map has an entry for each
-  pub vertices-used : (v : ℕ) → v < newCount l → (x : ℕ) × (x < length (corners l)) × (vertexAt (newList l) x ≡ v)
-  vertices-used v h =
-      let r = Numbering.number-used (groupLabels l) v h in
-      (r .0, omega (arith, r .1, groups-length), Numbering.new-vertex l (groupLabels l) groups-length (r .0) ∙ r .2)
-
+  -- the map has an entry for each new vertex: the input vertex of its corners
   pub map-for-each : length (newMap l) ≡ newCount l
   map-for-each = Numbering.map-length l (groupLabels l) groups-length
+
+  pub map-entry : (x : ℕ) → x < length (corners l) → getD (newMap l) (vertexAt (newList l) x) (pos 0) ≡ getD (corners l) x (pos 0)
+  map-entry x h =
+      ap (λ (v : ℕ). getD (newMap l) v (pos 0)) (Numbering.new-vertex l (groupLabels l) groups-length x) ∙
+      Numbering.back-number l (groupLabels l) groups-length (newMap l) map-gives-back x h
 
   -- "two corners have the same new vertex exactly when they are joined by the smallest equivalence that holds the paper's links"
   pub same-vertex-when-joined : (x y : ℕ) → x < length (corners l) → y < length (corners l) → (vertexAt (newList l) x ≡ vertexAt (newList l) y) ↔ Joined (Linked l) x y
@@ -74,6 +72,11 @@ module _ (l : List ℤ) (n : ℕ) (accepted : Accepted l n) where
     λ e. Fewest.joined-linked l (Result.new-joined everyEdge l n valid x y h k e),
     λ j. Result.joined-new everyEdge l n valid x y h k (Fewest.linked-joined l j),
   )
+
+  -- and their group's label is its earliest corner
+  pub label-earliest : (x : ℕ) → x < length (corners l) → Joined (Linked l) x (labelAt (groupLabels l) x) × ((y : ℕ) → Joined (Linked l) x y → labelAt (groupLabels l) x ≤ y)
+  unfolding groupLabels
+  label-earliest x h = Fewest.fan-earliest l n valid x h
 
   pub joined-is-smallest : (E : ℕ → ℕ → Type 0) → ((x y : ℕ) → Linked l x y → E x y) → ((x y : ℕ) → x ≡ y → E x y) → ((x y : ℕ) → E x y → E y x) → ((x y z : ℕ) → E x y → E y z → E x z) → (x y : ℕ) → Joined (Linked l) x y → E x y
   joined-is-smallest E holds e-same e-back e-chain x y j = joined-least E holds e-same e-back e-chain j
@@ -95,8 +98,8 @@ module _ (l : List ℤ) (n : ℕ) (accepted : Accepted l n) where
   pub counts-corners : cutAccepted l n .corners ≡ length (corners l)
   counts-corners = ap (λ (a : CheckAnswer). a .corners) (accepted-counts l n accepted)
 
-  pub counts-vertices : cutAccepted l n .vertices ≡ newCount l
-  counts-vertices = refl
+  pub counts-vertices : Counted (Used (newList l)) (cutAccepted l n .vertices)
+  counts-vertices = Numbering.vertices-counted l (groupLabels l) groups-length
 
   pub counts-singular-edges : Counted (SingularEdge l) (cutAccepted l n .«singular_edges»)
   counts-singular-edges = Counts.singular-edges l n valid
@@ -131,10 +134,7 @@ module _ (l : List ℤ) (n : ℕ) (accepted : Accepted l n) where
   -- "each edge of the new list has one or two faces"
   pub one-or-two-faces : (a b : ℕ) → 0 < facesOn (newList l) a b → (facesOn (newList l) a b ≡ 1) ⊎ (facesOn (newList l) a b ≡ 2)
   unfolding groupLabels
-  one-or-two-faces a b = go (facesOn (newList l) a b) (Result.result-edges everyEdge l n valid a b)
-    where
-      go : (m : ℕ) → m ≤ 2 → 0 < m → (m ≡ 1) ⊎ (m ≡ 2)
-      go m h k = ⊎-elim (λ e. inl e) (λ e. inr (omega arith)) (equal-or-not m 1)
+  one-or-two-faces a b = Result.result-one-or-two everyEdge l n valid a b
 
   -- "round each new vertex every face is reached from every other by stepping across result edges at that vertex"
   pub one-fan : OneFan (newList l)
@@ -189,31 +189,12 @@ module _ (l : List ℤ) (n : ℕ) (accepted : Accepted l n) where
 module _ (l : List ℤ) (n : ℕ) (accepted : Accepted l n) where
   -- each vertex of the result is of class 1 or 2: no standalone vertex, no singular edge, no second fan
   pub new-classes : (v : ℕ) → v < newCount l → (classOf (newList l) v ≡ 1) ⊎ (classOf (newList l) v ≡ 2)
-  new-classes v h = go (classOf new v) (Counts.class-few new v) not-standalone not-singular not-isolated
-    where
-      new : List ℤ
-      new = newList l
-
-      again : Accepted new (newCount l)
-      again = new-list-accepted l n accepted
-
-      not-standalone : classOf new v ≡ 0 → ⊥
-      not-standalone e =
-          let x = vertices-used l n accepted v h in
-          class-0 new (newCount l) again v .0 e (x .0) (omega (arith, x .1, Numbering.new-corners-length l (groupLabels l) (groups-length l n accepted))) (x .2)
-
-      not-singular : classOf new v ≡ 3 → ⊥
-      not-singular e =
-          let w = class-3 new (newCount l) again v .0 e in
-          ⊎-elim (λ p. omega (arith, w .1)) (λ p. omega (arith, w .1)) (one-or-two-faces l n accepted v (w .0) (omega (arith, w .1)))
-
-      not-isolated : classOf new v ≡ 4 → ⊥
-      not-isolated e =
-          let m = class-4 new (newCount l) again v .0 e .1 in
-          m .apart (one-fan l n accepted (m .one) (m .two) (m .one-below) (m .two-below) (m .one-on ∙ sym (m .two-on)))
-
-      go : (k : ℕ) → k ≤ 4 → (k ≡ 0 → ⊥) → (k ≡ 3 → ⊥) → (k ≡ 4 → ⊥) → (k ≡ 1) ⊎ (k ≡ 2)
-      go k few n0 n3 n4 = ⊎-elim (λ e. inl e) (λ e. inr (omega arith)) (equal-or-not k 1)
+  unfolding groupLabels
+  new-classes v h =
+      Classes.class-regular (newList l) (newCount l) (accepted-exactly-when (newList l) (newCount l) .0 (new-list-accepted l n accepted)) v
+      (Result.result-edges everyEdge l n (valid l n accepted))
+      (one-fan l n accepted)
+      (Numbering.new-used l (groupLabels l) (groups-length l n accepted) v h)
 
   -- the cut of a cut is that cut
   pub cut-again : newList (newList l) ≡ newList l

@@ -1,19 +1,19 @@
 -- The cut at every regular edge: its groups are what the links of the list join, and every labelling that a cut could make has at least
 -- as many labels, for each of its labels lies within one group.
 use Prim.Native.Nat.{ℕ, _≤_, _<_}
-use mathlib.Core.Path.{_≡_, refl, sym, _∙_, ap}
+use mathlib.Core.Path.{_≡_, refl, sym, _∙_}
 use mathlib.Core.Bool.{Bool, true, false, cond}
 use mathlib.Core.List.{List}
 use mathlib.Core.Logic.{_↔_}
 use native.Mathlib.Omega.{arith}
 use lib.Dec.{ltb}
 use lib.IntN.{ℤ}
-use lib.ListN.{length, getD}
+use lib.ListN.{length}
 use Rattle.list.specs.Faces.{corners}
 use Rattle.list.specs.Check.{Valid}
 use Rattle.edges.specs.Uses.{uses}
 use Rattle.edges.proofs.Lists.{In}
-use Rattle.cut.specs.Groups.{everyEdge, groupsOfUses}
+use Rattle.cut.specs.Groups.{links, everyEdge}
 use Rattle.cut.specs.Renumber.{distinct, placeIn, newVertices}
 use Rattle.demands.specs.Joined.{Joined, link}
 use Rattle.demands.specs.Renumbered.{vertexAt}
@@ -21,8 +21,9 @@ use Rattle.demands.specs.Linked.{Linked}
 use Rattle.demands.specs.Labelling.{labelAt, Labelling, labelCount}
 use Rattle.demands.proofs.Equivalence.{joined-equal, joined-through, joined-within}
 use Rattle.demands.proofs.Walk.{Met}
+use Rattle.demands.proofs.Labels.{label-early, label-itself}
 use Rattle.demands.proofs.Distinct.{distinct-has, distinct-of, distinct-different, in-at, place-below, place-holds, onto-fit, onto-exact}
-use Rattle.demands.proofs.Crossing.{joins, Crossing}
+use Rattle.demands.proofs.Crossing.{Crossing}
 use Rattle.demands.proofs.Links.{group-joined, joined-group}
 use Rattle.demands.proofs.Result.{groups, groups-length, cornered}
 
@@ -49,6 +50,13 @@ module _ (l : List ℤ) (n : ℕ) (v : Valid l n) where
 
   pub joined-fan : {x y : ℕ} → Joined (Linked l) x y → labelAt fans x ≡ labelAt fans y
   joined-fan j = joined-group everyEdge l (cornered everyEdge l n v) (linked-joined l j)
+
+  -- a group's label is its earliest corner
+  pub fan-earliest : (x : ℕ) → x < length (corners l) → Joined (Linked l) x (labelAt fans x) × ((y : ℕ) → Joined (Linked l) x y → labelAt fans x ≤ y)
+  fan-earliest x h =
+      let early = label-early (length (uses l)) (links everyEdge (uses l)) in
+      let itself = label-itself (length (uses l)) (links everyEdge (uses l)) in
+      (fan-joined x (labelAt fans x) h (omega (arith, early x)) (sym (itself x)), λ y j. omega (arith, joined-fan j, early y))
 
   module _ (labels : List ℕ) (labelling : Labelling l labels) where
     -- the group within which a label lies, by the label's earliest corner

@@ -1,6 +1,6 @@
 -- The links of a list are the meetings of its corners across the chosen regular edges, so its groups are what those meetings join.
 use Prim.Native.Nat.{ℕ, zero, suc, _≤_, _<_}
-use mathlib.Core.Path.{_≡_, refl, sym, _∙_, ap, subst}
+use mathlib.Core.Path.{_≡_, refl, sym, _∙_, ap}
 use mathlib.Core.Bool.{Bool, true, false, cond, _&&_}
 use mathlib.Core.List.{List, [], _∷_, _++_}
 use mathlib.Core.Logic.{_⊎_, inl, inr, ⊎-elim}
@@ -15,7 +15,7 @@ use Rattle.edges.proofs.Lists.{In}
 use Rattle.edges.proofs.Uses.{uses-long, corner-at}
 use Rattle.edges.proofs.Mates.{Regular, mate-other, mate-regular}
 use Rattle.cut.specs.Groups.{Link, linksOf, noUse, linksAt, linksFrom, links, groupsOfUses}
-use Rattle.demands.specs.Joined.{Joined, link, Side, starts, stops, opposite}
+use Rattle.demands.specs.Joined.{Joined, link, Side, starts, stops}
 use Rattle.demands.specs.Renumbered.{vertexAt}
 use Rattle.demands.specs.Linked.{useAt, cornerBy, Across}
 use Rattle.demands.specs.Labelling.{labelAt}
@@ -23,7 +23,7 @@ use Rattle.demands.proofs.Equivalence.{joined-equal}
 use Rattle.demands.proofs.Walk.{Met}
 use Rattle.demands.proofs.Labels.{Linking, Below, label-joined, joined-label}
 use Rattle.demands.proofs.Corners.{next, Cornered}
-use Rattle.demands.proofs.Crossing.{Ends, use-from, use-to, same-ends, ends-back, ends-sides, two-only, cornerBy-below, joins, Crossing, across-back}
+use Rattle.demands.proofs.Crossing.{Ends, use-from, same-ends, ends-back, ends-sides, two-only, cornerBy-below, Crossing, across-back}
 
 module _ {A : Type 0} where
   pub in-left : (x : A) (xs ys : List A) → In x xs → In x (xs ++ ys)

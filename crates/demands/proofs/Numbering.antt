@@ -1,19 +1,21 @@
 -- Laws of a list numbered afresh by labels, whatever the labels are: -1 stands at the same positions, corners have the same new vertex exactly
 -- when they have the same label, the numbers appear in the order of first use, and the map gives the list back exactly when corners of
 -- one label lie on one vertex.
-use Prim.Native.Nat.{ℕ, zero, suc, _≤_, _<_}
+use Prim.Native.Nat.{ℕ, zero, suc, _<_}
 use mathlib.Core.Path.{_≡_, refl, sym, _∙_, ap}
 use mathlib.Core.Bool.{Bool, true, false, cond}
 use mathlib.Core.List.{List, [], _∷_, map}
-use mathlib.Core.Logic.{_⊎_, inl, inr}
+use mathlib.Core.Logic.{_↔_}
 use native.Mathlib.Omega.{arith}
-use lib.IntN.{ℤ, pos, negsuc}
+use lib.IntN.{ℤ, pos}
 use lib.ListN.{length, getD, length-map, List·getD-map}
-use Rattle.list.specs.Faces.{isEnd, corners, num, vertices}
+use Rattle.list.specs.Faces.{isEnd, corners, num}
 use Rattle.edges.proofs.Lists.{In}
 use Rattle.cut.specs.Renumber.{distinct, placeIn, newNumbers, refilled, newListOf, newVertices, mapOf}
 use Rattle.demands.specs.Renumbered.{vertexAt, ends, mapped, FirstUse}
 use Rattle.demands.specs.Labelling.{labelAt}
+use Rattle.demands.specs.Classed.{Used}
+use Rattle.demands.specs.Counted.{Counted}
 use Rattle.demands.proofs.Distinct.{distinct-has, distinct-of, distinct-different, place-below, place-holds, place-at, in-at, distinct-order}
 
 pub getD-mapped : {A B : Type 0} (f : A → B) (xs : List A) (i : ℕ) (d : A) (b : B) → i < length xs → getD (map f xs) i b ≡ f (getD xs i d)
@@ -157,6 +159,20 @@ module _ (l : List ℤ) (labels : List ℕ) (same : length labels ≡ length (co
       let r = number-order labels x v (omega (arith, new-corners-length)) (rw (new-vertex x) at b) in
       (r .0, r .1, new-vertex (r .0) ∙ r .2)
 
+  pub new-used : (v : ℕ) → v < newVertices labels → Used (newListOf l labels) v
+  new-used v h =
+      let r = number-used labels v h in
+      (r .0, omega (arith, r .1, new-corners-length), new-vertex (r .0) ∙ r .2)
+
+  -- the new vertices are those of the new list's corners
+  pub vertices-counted : Counted (Used (newListOf l labels)) (newVertices labels)
+  vertices-counted = record {
+    nth = λ v. v;
+    each = new-used;
+    all = λ v u. (v, omega (arith, number-below labels (u .0) (omega (arith, u .1, new-corners-length)), new-vertex (u .0), u .2), refl);
+    once = λ u v h k e. e;
+  }
+
   module _ (x : ℕ) (h : x < length (corners l)) where
     -- the earliest corner of x's label
     abbrev earliest : ℕ
@@ -182,19 +198,24 @@ module _ (l : List ℤ) (labels : List ℕ) (same : length labels ≡ length (co
   abbrev pub Refines : Type 0
   Refines = (x y : ℕ) → x < length (corners l) → y < length (corners l) → labelAt labels x ≡ labelAt labels y → getD (corners l) x (pos 0) ≡ getD (corners l) y (pos 0)
 
-  pub map-back : Refines → mapped (mapOf l labels) (newListOf l labels) ≡ l
+  -- a map gives the list back exactly when it gives each corner's entry for its new vertex
+  number-back : (m : List ℤ) → Back m (corners l) (newNumbers labels) → mapped m (newListOf l labels) ≡ l
   unfolding newListOf
-  map-back refines =
-      refilled-back (mapOf l labels) l (newNumbers labels) numbers-fit
-      (λ x h. map-entry x h ∙ refines (earliest x h) x (omega (arith, earliest-below x h)) h (earliest-label x h))
+  number-back m = refilled-back m l (newNumbers labels) numbers-fit
 
-  -- a map that gives the list back gives each corner's entry for its new vertex
   pub back-number : (m : List ℤ) → mapped m (newListOf l labels) ≡ l → (x : ℕ) → x < length (corners l) → getD m (getD (newNumbers labels) x 0) (pos 0) ≡ getD (corners l) x (pos 0)
   unfolding newListOf
   back-number m e = back-refilled m l (newNumbers labels) numbers-fit e
 
-  pub back-map : mapped (mapOf l labels) (newListOf l labels) ≡ l → Refines
-  back-map e x y x-below y-below p =
-      sym (back-number (mapOf l labels) e x x-below) ∙
-      ap (λ (k : ℕ). getD (mapOf l labels) k (pos 0)) (same-number labels x y (omega arith) (omega arith) p) ∙
-      back-number (mapOf l labels) e y y-below
+  pub map-back : (mapped (mapOf l labels) (newListOf l labels) ≡ l) ↔ Refines
+  map-back = (one-entry, gives-back)
+    where
+      one-entry : mapped (mapOf l labels) (newListOf l labels) ≡ l → Refines
+      one-entry e x y x-below y-below p =
+          sym (back-number (mapOf l labels) e x x-below) ∙
+          ap (λ (k : ℕ). getD (mapOf l labels) k (pos 0)) (same-number labels x y (omega arith) (omega arith) p) ∙
+          back-number (mapOf l labels) e y y-below
+
+      gives-back : Refines → mapped (mapOf l labels) (newListOf l labels) ≡ l
+      gives-back refines =
+          number-back (mapOf l labels) (λ x h. map-entry x h ∙ refines (earliest x h) x (omega (arith, earliest-below x h)) h (earliest-label x h))

@@ -1,6 +1,6 @@
 -- What the demands say of the new list leaves one list only: -1 at the same positions, numbers in the order of first use, equal exactly at
 -- joined corners. So a list with one fan round each vertex, numbered by first use, is its own cut.
-use Prim.Native.Nat.{ℕ, zero, suc, _≤_, _<_}
+use Prim.Native.Nat.{ℕ, zero, suc, _<_}
 use mathlib.Core.Path.{_≡_, refl, sym, _∙_, ap}
 use mathlib.Core.Bool.{Bool, true, false, cond, false≢true}
 use mathlib.Core.List.{List, [], _∷_}
@@ -12,8 +12,7 @@ use lib.IntN.{ℤ, pos, negsuc}
 use lib.ListN.{length, getD}
 use lib.Seq.{ext-getD}
 use Rattle.list.specs.Faces.{isEnd, end, corners}
-use Rattle.list.specs.Check.{Valid}
-use Rattle.cut.specs.Renumber.{newNumbers, newListOf, newVertices, mapOf}
+use Rattle.cut.specs.Renumber.{newListOf, newVertices, mapOf}
 use Rattle.demands.specs.Renumbered.{vertexAt, ends, mapped, FirstUse}
 use Rattle.demands.specs.Labelling.{labelAt}
 use Rattle.demands.proofs.Numbering.{new-ends, new-corners-length, new-entry, new-vertex, first-use, same-number, same-label, number-used, map-length, back-number}

@@ -1,28 +1,28 @@
 -- The list numbered afresh by its groups, for any choice J of joined regular edges: it is valid, each of its edges has one or two faces,
 -- and round each of its vertices there is one fan.
-use Prim.Native.Nat.{ℕ, zero, suc, _≤_, _<_}
-use mathlib.Core.Path.{_≡_, refl, sym, _∙_, ap, subst}
-use mathlib.Core.Bool.{Bool, true, false}
+use Prim.Native.Nat.{ℕ, _≤_, _<_}
+use mathlib.Core.Path.{_≡_, refl, sym, _∙_, ap}
+use mathlib.Core.Bool.{Bool, true}
 use mathlib.Core.List.{List, [], _∷_}
 use mathlib.Core.Logic.{_⊎_, inl, inr, ⊎-elim}
 use native.Mathlib.Omega.{arith}
 use lib.IntN.{ℤ, pos}
-use lib.ListN.{length, getD}
+use lib.ListN.{length}
 use Rattle.list.specs.Faces.{corners}
 use Rattle.list.specs.Check.{Valid}
 use Rattle.edges.specs.Uses.{Use, uses, onEdge, facesOn}
 use Rattle.edges.proofs.Lists.{In, Rising}
 use Rattle.edges.proofs.Uses.{uses-long}
 use Rattle.edges.proofs.Mates.{sharing, sharing-faces, sharing-rises, in-sharing, shares, is-here}
-use Rattle.cut.specs.Groups.{links, labelsOf, groupsOfUses}
-use Rattle.cut.specs.Renumber.{newNumbers, newListOf, newVertices}
+use Rattle.cut.specs.Groups.{links, groupsOfUses}
+use Rattle.cut.specs.Renumber.{newListOf, newVertices}
 use Rattle.demands.specs.Joined.{Joined, link, Side, starts, stops, opposite}
 use Rattle.demands.specs.Renumbered.{vertexAt}
-use Rattle.demands.specs.Linked.{useAt, cornerBy, Across, Linked, OneFan}
+use Rattle.demands.specs.Linked.{useAt, cornerBy, Across, OneFan}
 use Rattle.demands.proofs.Equivalence.{joined-equal, joined-through}
 use Rattle.demands.proofs.Walk.{Free, Met, three-free}
 use Rattle.demands.proofs.Labels.{labels-length}
-use Rattle.demands.proofs.Distinct.{two-in}
+use Rattle.demands.proofs.Distinct.{equal-or-not, two-in}
 use Rattle.demands.proofs.Numbering.{new-ends, new-corners-length, new-vertex, same-number, same-label, Refines}
 use Rattle.demands.proofs.Corners.{next, Cornered, valid-cornered, corner-entry}
 use Rattle.demands.proofs.Crossing.{Ends, edge-vertices, same-ends, ends-same, ends-back, sides-ends, cornerBy-below, ends-sides, side-once, corner-once, three-faces, Crossing, crossing-meets}
@@ -152,6 +152,11 @@ module _ (J : Use → Bool) (l : List ℤ) (n : ℕ) (v : Valid l n) where
           let at-f = each f (inr (inl refl)) in
           let at-g = each g (inr (inr (inl refl))) in
           absurd (three-uses a b e f g (omega arith) (omega arith) (at-g .0) (at-e .1) (at-f .1) (at-g .1))
+
+  pub result-one-or-two : (a b : ℕ) → 0 < facesOn result a b → (facesOn result a b ≡ 1) ⊎ (facesOn result a b ≡ 2)
+  result-one-or-two a b h =
+      let few = result-edges a b in
+      ⊎-elim (λ e. inl e) (λ e. inr (omega arith)) (equal-or-not (facesOn result a b) 1)
 
   -- the other ends of two uses that meet do too
   crossing-opposite : {x y : ℕ} {s t : Side} (c : Crossing J l x s y t) → Crossing J l (cornerBy l (c .across .one) (opposite s)) (opposite s) (cornerBy l (c .across .two) (opposite t)) (opposite t)

@@ -2,7 +2,7 @@
 -- free side and leaves each corner by the side opposite to the one it came in by visits the whole group; another free side ends it.
 use mathlib.Core.Path.{_≡_, refl, sym}
 use mathlib.Core.Logic.{_⊎_, inl, inr}
-use Rattle.demands.specs.Joined.{Joined, link, same, back, chain, Side, starts, stops, opposite}
+use Rattle.demands.specs.Joined.{Joined, same, Side, starts, stops, opposite}
 use Rattle.demands.proofs.Equivalence.{joined-least}
 
 -- the walk from the side s of x comes to y by its side t

@@ -1,5 +1,6 @@
 -- What the classes say of a vertex, in the words of document 01 ("Edges, fans and classes", 3).
 --
+--   Used l v            v is the vertex of a corner, so it has a face
 --   Standalone l v      v has no face
 --   EndsSingular l v    v is an endpoint of a singular edge
 --   EndsBoundary l v    v is an endpoint of a boundary edge
@@ -15,8 +16,11 @@ use Rattle.demands.specs.Joined.{Joined}
 use Rattle.demands.specs.Renumbered.{vertexAt}
 use Rattle.demands.specs.Linked.{Linked}
 
+abbrev pub Used : List ℤ → ℕ → Type 0
+Used l v = (x : ℕ) × (x < length (corners l)) × (vertexAt l x ≡ v)
+
 abbrev pub Standalone : List ℤ → ℕ → Type 0
-Standalone l v = (x : ℕ) → x < length (corners l) → vertexAt l x ≡ v → ⊥
+Standalone l v = Used l v → ⊥
 
 abbrev pub EndsSingular : List ℤ → ℕ → Type 0
 EndsSingular l v = (w : ℕ) × (3 ≤ facesOn l v w)

@@ -8,7 +8,7 @@
 use Prim.Native.Nat.{ℕ, _<_}
 use mathlib.Core.Path.{_≡_}
 use mathlib.Core.List.{List, [], _∷_, map}
-use mathlib.Core.Bool.{Bool, true, false, cond}
+use mathlib.Core.Bool.{Bool, cond}
 use lib.IntN.{ℤ, pos}
 use lib.ListN.{length, getD}
 use Rattle.list.specs.Faces.{isEnd, corners, num}
