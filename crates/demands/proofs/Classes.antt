@@ -9,7 +9,6 @@ use borrow.Author.Tests.{eqb-true, eq-eqb, ltb-true, lt-ltb, leb-true, le-leb}
 use lib.Dec.{eqb, ltb}
 use lib.IntN.{ℤ}
 use lib.ListN.{length, getD}
-use Rattle.list.specs.Faces.{corners}
 use Rattle.list.specs.Check.{Valid}
 use Rattle.edges.specs.Choose.{choose}
 use Rattle.edges.specs.Uses.{Use, uses, lo, hi, usesOn, facesOn, onEdge, isBoundary, isSingular}
@@ -20,7 +19,7 @@ use Rattle.edges.proofs.Mates.{sharing, sharing-faces, sharing-same, in-sharing
 use Rattle.cut.specs.Groups.{everyEdge, groupsOfUses, fanLabels}
 use Rattle.cut.specs.Renumber.{distinct}
 use Rattle.cut.specs.Classes.{touches, endsEdgeOf, endsEdge, hasFace, labelsAt, fansAt, classOf}
-use Rattle.demands.specs.Renumbered.{vertexAt}
+use Rattle.demands.specs.Renumbered.{Corner, vertexAt}
 use Rattle.demands.specs.Linked.{useAt, OneFan}
 use Rattle.demands.specs.Labelling.{labelAt}
 use Rattle.demands.specs.Classed.{Used, Standalone, EndsSingular, EndsBoundary, ManyFans}
@@ -87,10 +86,10 @@ module _ (l : List ℤ) (v : ℕ) where
       some-holds (λ (u : Use). eqb v (u .from)) noUse (uses l) (r .0) (omega (arith, r .1, uses-long l)) (eq-eqb v (useAt l (r .0) .from) (sym (r .2) ∙ sym (from-at l (r .0))))
 
   -- a use of an edge at v
-  use-at : (w : ℕ) → 0 < facesOn l v w → (e : ℕ) × (e < length (corners l)) × (onEdge v w (useAt l e) ≡ true)
+  use-at : (w : ℕ) → 0 < facesOn l v w → (e : ℕ) × Corner l e × (onEdge v w (useAt l e) ≡ true)
   use-at w h = go (sharing l v w) refl
     where
-      go : (xs : List ℕ) → sharing l v w ≡ xs → (e : ℕ) × (e < length (corners l)) × (onEdge v w (useAt l e) ≡ true)
+      go : (xs : List ℕ) → sharing l v w ≡ xs → (e : ℕ) × Corner l e × (onEdge v w (useAt l e) ≡ true)
       go [] p = absurd (omega (arith, sharing-faces l v w, ap length p))
       go (e ∷ xs) p =
           let i : In e (sharing l v w) = rw p (inl refl) in
@@ -207,7 +206,7 @@ module _ (l : List ℤ) (n : ℕ) (valid : Valid l n) (v : ℕ) where
       y : ℕ
       y = m .two
 
-      at : (z : ℕ) → z < length (corners l) → vertexAt l z ≡ v → In (labelAt fans z) ks
+      at : (z : ℕ) → Corner l z → vertexAt l z ≡ v → In (labelAt fans z) ks
       at z h e = at-labels v z (uses l) fans (omega (arith, uses-long l)) (omega (arith, groups-length everyEdge l n valid)) (from-at l z ∙ e)
 
   singular-found : endsEdge isSingular (uses l) v ≡ true → EndsSingular l v

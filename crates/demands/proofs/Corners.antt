@@ -20,7 +20,7 @@ use Rattle.list.specs.Check.{ValidFace, Valid}
 use Rattle.edges.specs.Uses.{Use, usesOfFace, usesFrom, uses}
 use Rattle.edges.proofs.Uses.{noUse, use-in, joined, corners-joined, nextIn, next-inside, uses-face-long, uses-long, from-at, to-next, next-below}
 use Rattle.edges.proofs.Faces.{use-proper, vertex-once, face-long}
-use Rattle.demands.specs.Renumbered.{vertexAt}
+use Rattle.demands.specs.Renumbered.{Corner, vertexAt}
 use Rattle.demands.specs.Linked.{useAt}
 use Rattle.demands.proofs.Distinct.{equal-or-not}
 
@@ -28,11 +28,11 @@ abbrev pub next : List ℤ → ℕ → ℕ
 next l e = useAt l e .next
 
 pub record Cornered (l : List ℤ) : Type 0 where
-  pub next-inside : (e : ℕ) → e < length (corners l) → next l e < length (corners l)
-  pub next-once : (e f : ℕ) → e < length (corners l) → f < length (corners l) → next l e ≡ next l f → e ≡ f
-  pub next-found : (x : ℕ) → x < length (corners l) → (e : ℕ) × (e < length (corners l)) × (next l e ≡ x)
-  pub ends-differ : (e : ℕ) → e < length (corners l) → vertexAt l e ≡ vertexAt l (next l e) → ⊥
-  pub neighbours-differ : (e : ℕ) → e < length (corners l) → vertexAt l e ≡ vertexAt l (next l (next l e)) → ⊥
+  pub next-inside : (e : ℕ) → Corner l e → Corner l (next l e)
+  pub next-once : (e f : ℕ) → Corner l e → Corner l f → next l e ≡ next l f → e ≡ f
+  pub next-found : (x : ℕ) → Corner l x → (e : ℕ) × Corner l e × (next l e ≡ x)
+  pub ends-differ : (e : ℕ) → Corner l e → vertexAt l e ≡ vertexAt l (next l e) → ⊥
+  pub neighbours-differ : (e : ℕ) → Corner l e → vertexAt l e ≡ vertexAt l (next l (next l e)) → ⊥
 
 -- an element of two lists put together is one of the first or of the second
 pub data Part {A : Type 0} (d : A) (xs ys : List A) (i : ℕ) : Type 0 where
@@ -204,5 +204,5 @@ entries-of n (r ∷ rs) v x h = go (part (pos 0) r (joined rs) x h) (entries-of 
     go (first h p) ih = let w = v 0 (omega arith) .inside x h in rw (p, w .1)
     go (second j h e p) ih = rw p (ih j h)
 
-pub corner-entry : (l : List ℤ) (n : ℕ) → Valid l n → (x : ℕ) → x < length (corners l) → getD (corners l) x (pos 0) ≡ pos (vertexAt l x)
+pub corner-entry : (l : List ℤ) (n : ℕ) → Valid l n → (x : ℕ) → Corner l x → getD (corners l) x (pos 0) ≡ pos (vertexAt l x)
 corner-entry l n v x h = rw (corners-joined l) (entries-of n (runs l) (v .each-face) x (rw (corners-joined l) at h))

@@ -64,6 +64,11 @@ counted-through Q f into onto apart c = record {
   once = λ i j h k e. c .once i j h k (apart (c .nth i) (c .nth j) (c .each i h) (c .each j k) e);
 }
 
+-- where nothing has the property the count is 0
+pub counted-none : {A : Type 0} {P : A → Type 0} {m : ℕ} → ((a : A) → P a → ⊥) → Counted P m → m ≡ 0
+counted-none {m = zero} none c = refl
+counted-none {m = suc m} none c = absurd (none (c .nth 0) (c .each 0 (omega arith)))
+
 row-same : (s m : ℕ) → countFrom s m ≡ upFrom s m
 row-same s zero = refl
 row-same s (suc m) = ap (λ (xs : List ℕ). s ∷ xs) (row-same (suc s) m)

@@ -3,7 +3,7 @@
 --
 --   Ends l e f          the uses that start at the corners e and f have the same two vertices, whichever way they run
 --   Crossing J l        corners meet across an edge with two faces that J chooses, asked of the earlier of its uses
-use Prim.Native.Nat.{ℕ, _≤_, _<_, min, max}
+use Prim.Native.Nat.{ℕ, _≤_, min, max}
 use mathlib.Core.Path.{_≡_, refl, sym, _∙_, ap, subst}
 use mathlib.Core.Bool.{Bool, true, false, cond}
 use mathlib.Core.List.{List}
@@ -13,13 +13,12 @@ use borrow.Author.Tests.{ltb-true, ltb-false, lt-ltb, le-ltb}
 use lib.Dec.{ltb}
 use lib.IntN.{ℤ}
 use lib.ListN.{length}
-use Rattle.list.specs.Faces.{corners}
 use Rattle.edges.specs.Uses.{Use, onEdge, facesOn}
 use Rattle.edges.proofs.Uses.{uses-long, from-at, to-next}
 use Rattle.edges.proofs.Faces.{on-edge, edge-on}
 use Rattle.edges.proofs.Mates.{sharing, sharing-faces, sharing-same, shares, is-here}
 use Rattle.demands.specs.Joined.{Side, starts, stops, opposite}
-use Rattle.demands.specs.Renumbered.{vertexAt}
+use Rattle.demands.specs.Renumbered.{Corner, vertexAt}
 use Rattle.demands.specs.Linked.{useAt, cornerBy, Across}
 use Rattle.demands.proofs.Walk.{Meeting}
 use Rattle.demands.proofs.Distinct.{equal-or-not, three-in}
@@ -36,7 +35,7 @@ pair-ends a b c d p q = go (equal-or-not a c)
 abbrev pub Ends : List ℤ → ℕ → ℕ → Type 0
 Ends l e f = ((vertexAt l e ≡ vertexAt l f) × (vertexAt l (next l e) ≡ vertexAt l (next l f))) ⊎ ((vertexAt l e ≡ vertexAt l (next l f)) × (vertexAt l (next l e) ≡ vertexAt l f))
 
-module _ (l : List ℤ) (e : ℕ) (h : e < length (corners l)) where
+module _ (l : List ℤ) (e : ℕ) (h : Corner l e) where
   pub use-from : useAt l e .from ≡ vertexAt l e
   use-from = from-at l e
 
@@ -53,7 +52,7 @@ module _ (l : List ℤ) (e : ℕ) (h : e < length (corners l)) where
   vertices-edge a b (inl p) = edge-on a b (useAt l e) (omega (arith, use-from, use-to)) (omega (arith, use-from, use-to))
   vertices-edge a b (inr p) = edge-on a b (useAt l e) (omega (arith, use-from, use-to)) (omega (arith, use-from, use-to))
 
-module _ (l : List ℤ) (e f : ℕ) (e-below : e < length (corners l)) (f-below : f < length (corners l)) where
+module _ (l : List ℤ) (e f : ℕ) (e-below : Corner l e) (f-below : Corner l f) where
   pub same-ends : onEdge (useAt l e .from) (useAt l e .to) (useAt l f) ≡ true → Ends l f e
   same-ends o = ⊎-elim
       (λ p. inl (p .0 ∙ use-from l e e-below, p .1 ∙ use-to l e e-below))
@@ -78,12 +77,12 @@ sides-ends l e f stops starts p q = inr (q, p)
 sides-ends l e f stops stops p q = inl (q, p)
 
 module _ (l : List ℤ) (ok : Cornered l) where
-  pub cornerBy-below : (e : ℕ) (s : Side) → e < length (corners l) → cornerBy l e s < length (corners l)
+  pub cornerBy-below : (e : ℕ) (s : Side) → Corner l e → Corner l (cornerBy l e s)
   cornerBy-below e starts h = h
   cornerBy-below e stops h = ok .next-inside e h
 
   -- the other ends too lie on one vertex
-  pub ends-sides : (e f : ℕ) (s t : Side) → f < length (corners l) → Ends l e f → vertexAt l (cornerBy l e s) ≡ vertexAt l (cornerBy l f t) → vertexAt l (cornerBy l e (opposite s)) ≡ vertexAt l (cornerBy l f (opposite t))
+  pub ends-sides : (e f : ℕ) (s t : Side) → Corner l f → Ends l e f → vertexAt l (cornerBy l e s) ≡ vertexAt l (cornerBy l f t) → vertexAt l (cornerBy l e (opposite s)) ≡ vertexAt l (cornerBy l f (opposite t))
   ends-sides e f starts starts h (inl p) q = p .1
   ends-sides e f starts starts h (inr p) q = absurd (ok .ends-differ f h (sym q ∙ p .0))
   ends-sides e f starts stops h (inl p) q = absurd (ok .ends-differ f h (sym (p .0) ∙ q))
@@ -94,26 +93,26 @@ module _ (l : List ℤ) (ok : Cornered l) where
   ends-sides e f stops stops h (inr p) q = absurd (ok .ends-differ f h (sym (p .1) ∙ q))
 
   -- a side of a corner belongs to one use
-  pub side-once : (e f : ℕ) (s : Side) → e < length (corners l) → f < length (corners l) → cornerBy l e s ≡ cornerBy l f s → e ≡ f
+  pub side-once : (e f : ℕ) (s : Side) → Corner l e → Corner l f → cornerBy l e s ≡ cornerBy l f s → e ≡ f
   side-once e f starts h k p = p
   side-once e f stops h k p = ok .next-once e f h k p
 
   -- and the edges by a corner's two sides lead to different vertices
-  pub corner-once : (e f : ℕ) (s t : Side) → e < length (corners l) → f < length (corners l) → cornerBy l e s ≡ cornerBy l f t → vertexAt l (cornerBy l e (opposite s)) ≡ vertexAt l (cornerBy l f (opposite t)) → e ≡ f
+  pub corner-once : (e f : ℕ) (s t : Side) → Corner l e → Corner l f → cornerBy l e s ≡ cornerBy l f t → vertexAt l (cornerBy l e (opposite s)) ≡ vertexAt l (cornerBy l f (opposite t)) → e ≡ f
   corner-once e f starts starts h k p q = side-once e f starts h k p
   corner-once e f starts stops h k p q = absurd (ok .neighbours-differ f k (sym q ∙ ap (λ (x : ℕ). vertexAt l (next l x)) p))
   corner-once e f stops starts h k p q = absurd (ok .neighbours-differ e h (q ∙ ap (λ (x : ℕ). vertexAt l (next l x)) (sym p)))
   corner-once e f stops stops h k p q = side-once e f stops h k p
 
   -- a use's two ends lie on different vertices
-  pub end-once : (f : ℕ) (s t : Side) → f < length (corners l) → vertexAt l (cornerBy l f s) ≡ vertexAt l (cornerBy l f t) → s ≡ t
+  pub end-once : (f : ℕ) (s t : Side) → Corner l f → vertexAt l (cornerBy l f s) ≡ vertexAt l (cornerBy l f t) → s ≡ t
   end-once f starts starts h p = refl
   end-once f starts stops h p = absurd (ok .ends-differ f h p)
   end-once f stops starts h p = absurd (ok .ends-differ f h (sym p))
   end-once f stops stops h p = refl
 
   -- an edge has at least three faces where three uses have its vertices
-  pub three-faces : (e f g : ℕ) → e < length (corners l) → f < length (corners l) → g < length (corners l) → Ends l f e → Ends l g e → (e ≡ f → ⊥) → (e ≡ g → ⊥) → (f ≡ g → ⊥) → 3 ≤ facesOn l (useAt l e .from) (useAt l e .to)
+  pub three-faces : (e f g : ℕ) → Corner l e → Corner l f → Corner l g → Ends l f e → Ends l g e → (e ≡ f → ⊥) → (e ≡ g → ⊥) → (f ≡ g → ⊥) → 3 ≤ facesOn l (useAt l e .from) (useAt l e .to)
   three-faces e f g e-below f-below g-below p q e≢f e≢g f≢g =
       let a = useAt l e .from in
       let b = useAt l e .to in
@@ -125,7 +124,7 @@ module _ (l : List ℤ) (ok : Cornered l) where
       e≢f e≢g f≢g)
 
   -- and the use that shares an edge of two faces with another is the only one
-  pub two-only : (e f g : ℕ) → e < length (corners l) → f < length (corners l) → g < length (corners l) → facesOn l (useAt l e .from) (useAt l e .to) ≡ 2 → Ends l f e → Ends l g e → (e ≡ f → ⊥) → (e ≡ g → ⊥) → f ≡ g
+  pub two-only : (e f g : ℕ) → Corner l e → Corner l f → Corner l g → facesOn l (useAt l e .from) (useAt l e .to) ≡ 2 → Ends l f e → Ends l g e → (e ≡ f → ⊥) → (e ≡ g → ⊥) → f ≡ g
   two-only e f g e-below f-below g-below two p q e≢f e≢g =
       ⊎-elim (λ r. r) (λ n. absurd (omega (arith, three-faces e f g e-below f-below g-below p q e≢f e≢g n, two))) (equal-or-not f g)
 

@@ -4,7 +4,8 @@ use Prim.Native.Nat.{ℕ, _≤_, _<_}
 use mathlib.Core.Path.{_≡_, refl, sym, _∙_, ap}
 use mathlib.Core.Bool.{Bool}
 use mathlib.Core.List.{List}
-use mathlib.Core.Logic.{_↔_, _⊎_}
+use mathlib.Core.Logic.{_↔_, _⊎_, inl, inr}
+use native.Mathlib.Omega.{arith}
 use lib.IntN.{ℤ, pos}
 use lib.ListN.{length, getD}
 use Rattle.list.specs.Faces.{corners, runs}
@@ -12,19 +13,19 @@ use Rattle.list.specs.Check.{Valid}
 use Rattle.list.specs.declared.CheckAnswer.{CheckAnswer}
 use Rattle.list.proofs.Given.{accepted-exactly-when, accepted-counts}
 use Rattle.list.proofs.Checking.{faces-long}
-use Rattle.edges.specs.Uses.{Use, uses, facesOn}
+use Rattle.edges.specs.Uses.{Use, uses, facesOn, singularEdges}
 use Rattle.cut.specs.Groups.{everyEdge, groupsOfUses, groupLabels}
 use Rattle.cut.specs.Renumber.{newListOf, newVertices}
-use Rattle.cut.specs.Classes.{classOf}
+use Rattle.cut.specs.Classes.{classOf, singularVertices}
 use Rattle.cut.specs.Cut.{cutAccepted}
-use Rattle.demands.specs.Joined.{Joined}
-use Rattle.demands.specs.Renumbered.{vertexAt, ends, mapped, FirstUse}
+use Rattle.demands.specs.Joined.{Equivalence, Joined}
+use Rattle.demands.specs.Renumbered.{Corner, vertexAt, ends, mapped, FirstUse}
 use Rattle.demands.specs.Linked.{Linked, OneFan}
 use Rattle.demands.specs.Labelling.{labelAt, Labelling, labelCount}
 use Rattle.demands.specs.Classed.{Used, Standalone, EndsSingular, EndsBoundary, ManyFans}
 use Rattle.demands.specs.Counted.{Counted, SingularEdge, SingularVertex}
-use Rattle.demands.specs.Cutting.{Accepted, newList, newMap, newCount}
-use Rattle.demands.proofs.Equivalence.{joined-least, joined-equal}
+use Rattle.demands.specs.Cutting.{Accepted, newList, newMap, newCount, IsNewList}
+use Rattle.demands.proofs.Equivalence.{joined-equivalence, joined-least, joined-equal}
 use Rattle.demands.proofs.Numbering as Numbering
 use Rattle.demands.proofs.Corners.{corner-entry}
 use Rattle.demands.proofs.Result as Result
@@ -60,13 +61,13 @@ module _ (l : List ℤ) (n : ℕ) (accepted : Accepted l n) where
   pub map-for-each : length (newMap l) ≡ newCount l
   map-for-each = Numbering.map-length l (groupLabels l) groups-length
 
-  pub map-entry : (x : ℕ) → x < length (corners l) → getD (newMap l) (vertexAt (newList l) x) (pos 0) ≡ getD (corners l) x (pos 0)
+  pub map-entry : (x : ℕ) → Corner l x → getD (newMap l) (vertexAt (newList l) x) (pos 0) ≡ getD (corners l) x (pos 0)
   map-entry x h =
       ap (λ (v : ℕ). getD (newMap l) v (pos 0)) (Numbering.new-vertex l (groupLabels l) groups-length x) ∙
       Numbering.back-number l (groupLabels l) groups-length (newMap l) map-gives-back x h
 
   -- "two corners have the same new vertex exactly when they are joined by the smallest equivalence that holds the paper's links"
-  pub same-vertex-when-joined : (x y : ℕ) → x < length (corners l) → y < length (corners l) → (vertexAt (newList l) x ≡ vertexAt (newList l) y) ↔ Joined (Linked l) x y
+  pub same-vertex-when-joined : (x y : ℕ) → Corner l x → Corner l y → (vertexAt (newList l) x ≡ vertexAt (newList l) y) ↔ Joined (Linked l) x y
   unfolding groupLabels
   same-vertex-when-joined x y h k = (
     λ e. Fewest.joined-linked l (Result.new-joined everyEdge l n valid x y h k e),
@@ -74,19 +75,31 @@ module _ (l : List ℤ) (n : ℕ) (accepted : Accepted l n) where
   )
 
   -- and their group's label is its earliest corner
-  pub label-earliest : (x : ℕ) → x < length (corners l) → Joined (Linked l) x (labelAt (groupLabels l) x) × ((y : ℕ) → Joined (Linked l) x y → labelAt (groupLabels l) x ≤ y)
+  pub label-earliest : (x : ℕ) → Corner l x → Joined (Linked l) x (labelAt (groupLabels l) x) × ((y : ℕ) → Joined (Linked l) x y → labelAt (groupLabels l) x ≤ y)
   unfolding groupLabels
   label-earliest x h = Fewest.fan-earliest l n valid x h
 
-  pub joined-is-smallest : (E : ℕ → ℕ → Type 0) → ((x y : ℕ) → Linked l x y → E x y) → ((x y : ℕ) → x ≡ y → E x y) → ((x y : ℕ) → E x y → E y x) → ((x y z : ℕ) → E x y → E y z → E x z) → (x y : ℕ) → Joined (Linked l) x y → E x y
-  joined-is-smallest E holds e-same e-back e-chain x y j = joined-least E holds e-same e-back e-chain j
+  -- "smallest": an equivalence, and within every other that holds the links
+  pub joined-is-equivalence : Equivalence (Joined (Linked l))
+  joined-is-equivalence = joined-equivalence
+
+  pub joined-is-smallest : (E : ℕ → ℕ → Type 0) → Equivalence E → ((x y : ℕ) → Linked l x y → E x y) → (x y : ℕ) → Joined (Linked l) x y → E x y
+  joined-is-smallest E equivalence holds x y j = joined-least equivalence holds j
 
   -- these sentences leave one new list and one map only
-  pub new-list-only : (k : List ℤ) → ends k ≡ ends l → ((x : ℕ) → x < length (corners l) → getD (corners k) x (pos 0) ≡ pos (vertexAt k x)) → FirstUse k → ((x y : ℕ) → x < length (corners l) → y < length (corners l) → (vertexAt k x ≡ vertexAt k y) ↔ Joined (Linked l) x y) → k ≡ newList l
+  pub new-list-is : IsNewList l (newList l)
+  new-list-is = record {
+    same-ends = ends-stay;
+    vertices = λ x h. Numbering.new-entry l (groupLabels l) groups-length x ∙ ap pos (sym (Numbering.new-vertex l (groupLabels l) groups-length x));
+    first-use = numbered-by-first-use;
+    groups = same-vertex-when-joined;
+  }
+
+  pub new-list-only : (k : List ℤ) → IsNewList l k → k ≡ newList l
   unfolding groupLabels
-  new-list-only k k-ends k-entries k-order k-same =
-      Only.new-only l (groupLabels l) groups-length k k-ends k-entries k-order
-      (λ x y h j. (λ e. Fewest.joined-fan l n valid (k-same x y h j .0 e), λ e. k-same x y h j .1 (Fewest.fan-joined l n valid x y h j e)))
+  new-list-only k is =
+      Only.new-only l (groupLabels l) groups-length k (is .same-ends) (is .vertices) (is .first-use)
+      (λ x y h j. (λ e. Fewest.joined-fan l n valid (is .groups x y h j .0 e), λ e. is .groups x y h j .1 (Fewest.fan-joined l n valid x y h j e)))
 
   pub map-only : (m : List ℤ) → length m ≡ newCount l → mapped m (newList l) ≡ l → m ≡ newMap l
   map-only m long back = Only.map-only l (groupLabels l) groups-length m long back map-gives-back
@@ -153,7 +166,7 @@ module _ (l : List ℤ) (n : ℕ) (accepted : Accepted l n) where
   fewest-labels labels labelling = Fewest.fewest l n valid labels labelling
 
   -- "and if it has equally many, it makes the same groups"
-  pub fewest-same-groups : (labels : List ℕ) → Labelling l labels → labelCount labels ≡ newCount l → (x y : ℕ) → x < length (corners l) → y < length (corners l) → (labelAt labels x ≡ labelAt labels y) ↔ (vertexAt (newList l) x ≡ vertexAt (newList l) y)
+  pub fewest-same-groups : (labels : List ℕ) → Labelling l labels → labelCount labels ≡ newCount l → (x y : ℕ) → Corner l x → Corner l y → (labelAt labels x ≡ labelAt labels y) ↔ (vertexAt (newList l) x ≡ vertexAt (newList l) y)
   unfolding groupLabels
   fewest-same-groups labels labelling as-few x y h k =
       let same = Fewest.fewest-same l n valid labels labelling as-few x y h k in
@@ -183,11 +196,16 @@ module _ (l : List ℤ) (n : ℕ) (accepted : Accepted l n) where
   pub own-cut : OneFan l → FirstUse l → newList l ≡ l
   own-cut fan order =
       sym
-      (new-list-only l refl (corner-entry l n valid) order
-      (λ x y h k. (fan x y h k, λ j. joined-equal (vertexAt l) (λ p q m. m .2 .same-vertex) j)))
+      (new-list-only l
+      (record {
+        same-ends = refl;
+        vertices = corner-entry l n valid;
+        first-use = order;
+        groups = λ x y h k. (fan x y h k, λ j. joined-equal (vertexAt l) (λ p q m. m .2 .same-vertex) j);
+      }))
 
 module _ (l : List ℤ) (n : ℕ) (accepted : Accepted l n) where
-  -- each vertex of the result is of class 1 or 2: no standalone vertex, no singular edge, no second fan
+  -- the result has no standalone vertex, no singular edge and no singular vertex
   pub new-classes : (v : ℕ) → v < newCount l → (classOf (newList l) v ≡ 1) ⊎ (classOf (newList l) v ≡ 2)
   unfolding groupLabels
   new-classes v h =
@@ -195,6 +213,23 @@ module _ (l : List ℤ) (n : ℕ) (accepted : Accepted l n) where
       (Result.result-edges everyEdge l n (valid l n accepted))
       (one-fan l n accepted)
       (Numbering.new-used l (groupLabels l) (groups-length l n accepted) v h)
+
+  pub no-singular-edges : singularEdges (newList l) ≡ 0
+  unfolding groupLabels
+  no-singular-edges =
+      Counts.counted-none (λ e s. omega (arith, s .1, Result.result-edges everyEdge l n (valid l n accepted) (e .0) (e .1)))
+      (counts-singular-edges (newList l) (newCount l) (new-list-accepted l n accepted))
+
+  pub no-singular-vertices : singularVertices (newList l) (newCount l) ≡ 0
+  no-singular-vertices =
+      Counts.counted-none (λ v s. no-class (new-classes v (s .0)) (s .1))
+      (counts-singular-vertices (newList l) (newCount l) (new-list-accepted l n accepted))
+    where
+      no-class : {k : ℕ} → (k ≡ 1) ⊎ (k ≡ 2) → (k ≡ 3) ⊎ (k ≡ 4) → ⊥
+      no-class (inl p) (inl q) = omega arith
+      no-class (inl p) (inr q) = omega arith
+      no-class (inr p) (inl q) = omega arith
+      no-class (inr p) (inr q) = omega arith
 
   -- the cut of a cut is that cut
   pub cut-again : newList (newList l) ≡ newList l

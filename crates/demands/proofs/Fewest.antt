@@ -1,6 +1,6 @@
 -- The cut at every regular edge: its groups are what the links of the list join, and every labelling that a cut could make has at least
 -- as many labels, for each of its labels lies within one group.
-use Prim.Native.Nat.{ℕ, _≤_, _<_}
+use Prim.Native.Nat.{ℕ, _≤_}
 use mathlib.Core.Path.{_≡_, refl, sym, _∙_}
 use mathlib.Core.Bool.{Bool, true, false, cond}
 use mathlib.Core.List.{List}
@@ -9,14 +9,13 @@ use native.Mathlib.Omega.{arith}
 use lib.Dec.{ltb}
 use lib.IntN.{ℤ}
 use lib.ListN.{length}
-use Rattle.list.specs.Faces.{corners}
 use Rattle.list.specs.Check.{Valid}
 use Rattle.edges.specs.Uses.{uses}
 use Rattle.edges.proofs.Lists.{In}
 use Rattle.cut.specs.Groups.{links, everyEdge}
 use Rattle.cut.specs.Renumber.{distinct, placeIn, newVertices}
 use Rattle.demands.specs.Joined.{Joined, link}
-use Rattle.demands.specs.Renumbered.{vertexAt}
+use Rattle.demands.specs.Renumbered.{Corner, vertexAt}
 use Rattle.demands.specs.Linked.{Linked}
 use Rattle.demands.specs.Labelling.{labelAt, Labelling, labelCount}
 use Rattle.demands.proofs.Equivalence.{joined-equal, joined-through, joined-within}
@@ -45,14 +44,14 @@ module _ (l : List ℤ) (n : ℕ) (v : Valid l n) where
   abbrev pub fans : List ℕ
   fans = groups everyEdge l n v
 
-  pub fan-joined : (x y : ℕ) → x < length (corners l) → y < length (corners l) → labelAt fans x ≡ labelAt fans y → Joined (Linked l) x y
+  pub fan-joined : (x y : ℕ) → Corner l x → Corner l y → labelAt fans x ≡ labelAt fans y → Joined (Linked l) x y
   fan-joined x y h k e = joined-linked l (group-joined everyEdge l (cornered everyEdge l n v) x y h k e)
 
   pub joined-fan : {x y : ℕ} → Joined (Linked l) x y → labelAt fans x ≡ labelAt fans y
   joined-fan j = joined-group everyEdge l (cornered everyEdge l n v) (linked-joined l j)
 
   -- a group's label is its earliest corner
-  pub fan-earliest : (x : ℕ) → x < length (corners l) → Joined (Linked l) x (labelAt fans x) × ((y : ℕ) → Joined (Linked l) x y → labelAt fans x ≤ y)
+  pub fan-earliest : (x : ℕ) → Corner l x → Joined (Linked l) x (labelAt fans x) × ((y : ℕ) → Joined (Linked l) x y → labelAt fans x ≤ y)
   fan-earliest x h =
       let early = label-early (length (uses l)) (links everyEdge (uses l)) in
       let itself = label-itself (length (uses l)) (links everyEdge (uses l)) in
@@ -64,10 +63,10 @@ module _ (l : List ℤ) (n : ℕ) (v : Valid l n) where
     fan-of k = labelAt fans (placeIn k labels)
 
     -- corners of one label are in one group
-    label-fan : (x y : ℕ) → x < length (corners l) → y < length (corners l) → labelAt labels x ≡ labelAt labels y → labelAt fans x ≡ labelAt fans y
+    label-fan : (x y : ℕ) → Corner l x → Corner l y → labelAt labels x ≡ labelAt labels y → labelAt fans x ≡ labelAt fans y
     label-fan x y h k e = joined-fan (joined-through (λ p q m. link (m .0)) (labelling .linked x y h k e))
 
-    within : (x : ℕ) → x < length (corners l) → fan-of (labelAt labels x) ≡ labelAt fans x
+    within : (x : ℕ) → Corner l x → fan-of (labelAt labels x) ≡ labelAt fans x
     unfolding fan-of
     within x h =
         let i : In (labelAt labels x) labels = in-at labels x (omega (arith, labelling .one-each)) in
@@ -77,13 +76,13 @@ module _ (l : List ℤ) (n : ℕ) (v : Valid l n) where
     every-fan g i =
         let j : In g fans = distinct-of g fans i in
         let x = placeIn g fans in
-        let h : x < length (corners l) = omega (arith, place-below g fans j, groups-length everyEdge l n v) in
+        let h : Corner l x = omega (arith, place-below g fans j, groups-length everyEdge l n v) in
         (labelAt labels x, distinct-has (labelAt labels x) labels (in-at labels x (omega (arith, labelling .one-each))), within x h ∙ place-holds g fans j)
 
     pub fewest : newVertices fans ≤ labelCount labels
     fewest = onto-fit fan-of (distinct labels) (distinct fans) (distinct-different fans) every-fan
 
-    pub fewest-same : labelCount labels ≡ newVertices fans → (x y : ℕ) → x < length (corners l) → y < length (corners l) → (labelAt labels x ≡ labelAt labels y) ↔ (labelAt fans x ≡ labelAt fans y)
+    pub fewest-same : labelCount labels ≡ newVertices fans → (x y : ℕ) → Corner l x → Corner l y → (labelAt labels x ≡ labelAt labels y) ↔ (labelAt fans x ≡ labelAt fans y)
     fewest-same as-few x y h k = (
       label-fan x y h k,
       λ e.
@@ -98,5 +97,5 @@ module _ (l : List ℤ) (n : ℕ) (v : Valid l n) where
   fans-labelling = record {
     one-each = groups-length everyEdge l n v;
     one-vertex = λ x y h k e. joined-equal (vertexAt l) (λ p q m. m .2 .same-vertex) (fan-joined x y h k e);
-    linked = λ x y h k e. joined-within (labelAt fans) (λ p q m. joined-fan (link m)) (fan-joined x y h k e);
+    linked = λ x y h k e. joined-within (Linked l) (labelAt fans) (λ p q m. joined-fan (link m)) (fan-joined x y h k e);
   }

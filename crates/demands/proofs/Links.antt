@@ -9,14 +9,13 @@ use borrow.Author.Tests.{ltb-true, ltb-false, lt-ltb, eqb-true, eqb-false, eq-eq
 use lib.Dec.{ltb, eqb}
 use lib.IntN.{ℤ}
 use lib.ListN.{length, getD}
-use Rattle.list.specs.Faces.{corners}
 use Rattle.edges.specs.Uses.{Use, uses, Mate, alone, other, many, mateOf}
 use Rattle.edges.proofs.Lists.{In}
 use Rattle.edges.proofs.Uses.{uses-long, corner-at}
 use Rattle.edges.proofs.Mates.{Regular, mate-other, mate-regular}
 use Rattle.cut.specs.Groups.{Link, linksOf, noUse, linksAt, linksFrom, links, groupsOfUses}
 use Rattle.demands.specs.Joined.{Joined, link, Side, starts, stops}
-use Rattle.demands.specs.Renumbered.{vertexAt}
+use Rattle.demands.specs.Renumbered.{Corner, vertexAt}
 use Rattle.demands.specs.Linked.{useAt, cornerBy, Across}
 use Rattle.demands.specs.Labelling.{labelAt}
 use Rattle.demands.proofs.Equivalence.{joined-equal}
@@ -70,15 +69,15 @@ module _ (J : Use → Bool) (us : List Use) (k : Link) where
       go false p b q h = absurd h
 
 module _ (J : Use → Bool) (l : List ℤ) (ok : Cornered l) where
-  below : (e : ℕ) → e < length (corners l) → e < length (uses l)
+  below : (e : ℕ) → Corner l e → e < length (uses l)
   below e h = omega (arith, uses-long l)
 
   -- the uses e and f are the only two of their edge
-  module _ (e f : ℕ) (e-below : e < length (corners l)) (mate : mateOf (uses l) (useAt l e) ≡ other f) where
+  module _ (e f : ℕ) (e-below : Corner l e) (mate : mateOf (uses l) (useAt l e) ≡ other f) where
     regular : Regular l e f
     regular = mate-regular l e f (below e e-below) mate
 
-    f-below : f < length (corners l)
+    f-below : Corner l f
     f-below = omega (arith, regular .below, uses-long l)
 
     ends : Ends l e f
@@ -147,12 +146,12 @@ module _ (J : Use → Bool) (l : List ℤ) (ok : Cornered l) where
       let q = links-of J (uses l) k (useAt l e) (mateOf (uses l) (useAt l e)) (r .2) in
       link-of e (q .0) (omega (arith, r .1, uses-long l)) (q .1) k (q .3) (omega (arith, q .2, corner-at l e (r .1))) (q .4)
 
-  pub crossing-below : {x y : ℕ} {s t : Side} → Across l x s y t → (x < length (corners l)) × (y < length (corners l))
+  pub crossing-below : {x y : ℕ} {s t : Side} → Across l x s y t → Corner l x × Corner l y
   crossing-below {x} {y} {s} {t} a =
       (omega (arith, a .x-is, cornerBy-below l ok (a .one) s (a .one-below)), omega (arith, a .y-is, cornerBy-below l ok (a .two) t (a .two-below)))
 
   -- the link for the ends of e and f by their sides s and t
-  link-by : (e f : ℕ) (s t : Side) → e < length (corners l) → f < length (corners l) → Ends l e f → vertexAt l (cornerBy l e s) ≡ vertexAt l (cornerBy l f t) → (k : Link) × In k (linksOf (useAt l e) (useAt l f)) × (cornerBy l e s ≡ k .one) × (cornerBy l f t ≡ k .two)
+  link-by : (e f : ℕ) (s t : Side) → Corner l e → Corner l f → Ends l e f → vertexAt l (cornerBy l e s) ≡ vertexAt l (cornerBy l f t) → (k : Link) × In k (linksOf (useAt l e) (useAt l f)) × (cornerBy l e s ≡ k .one) × (cornerBy l f t ≡ k .two)
   link-by e f s t e-below f-below ends = go s t
     where
       e-is : e ≡ useAt l e .corner
@@ -184,7 +183,7 @@ module _ (J : Use → Bool) (l : List ℤ) (ok : Cornered l) where
       let h : e < length (uses l) = below e (a .one-below) in
       let r = mate-other l e h .1 (a .two-faces) in
       let regular : Regular l e (r .0) = mate-regular l e (r .0) h (r .1) in
-      let g-below : r .0 < length (corners l) = omega (arith, regular .below, uses-long l) in
+      let g-below : Corner l (r .0) = omega (arith, regular .below, uses-long l) in
       let ends : Ends l f e = same-ends l e f (a .one-below) (a .two-below) (a .same-edge) in
       let is-f : r .0 ≡ f = two-only l ok e (r .0) f (a .one-below) g-below (a .two-below) (a .two-faces) (same-ends l e (r .0) (a .one-below) g-below (regular .same-edge)) ends (λ p. regular .differs (sym p)) (a .differ) in
       let mate : mateOf (uses l) (useAt l e) ≡ other f = r .1 ∙ ap other is-f in
@@ -196,7 +195,7 @@ module _ (J : Use → Bool) (l : List ℤ) (ok : Cornered l) where
   abbrev pub group : ℕ → ℕ
   group x = labelAt (groupsOfUses J (uses l)) x
 
-  pub group-joined : (x y : ℕ) → x < length (corners l) → y < length (corners l) → group x ≡ group y → Joined (Met (Crossing J l)) x y
+  pub group-joined : (x y : ℕ) → Corner l x → Corner l y → group x ≡ group y → Joined (Met (Crossing J l)) x y
   group-joined x y h k = label-joined (length (uses l)) (links J (uses l)) (Met (Crossing J l)) each x y (below x h) (below y k)
     where
       each : Below (length (uses l)) (Met (Crossing J l)) (links J (uses l))

@@ -12,7 +12,7 @@ use lib.ListN.{length, getD, length-map, List·getD-map}
 use Rattle.list.specs.Faces.{isEnd, corners, num}
 use Rattle.edges.proofs.Lists.{In}
 use Rattle.cut.specs.Renumber.{distinct, placeIn, newNumbers, refilled, newListOf, newVertices, mapOf}
-use Rattle.demands.specs.Renumbered.{vertexAt, ends, mapped, FirstUse}
+use Rattle.demands.specs.Renumbered.{Corner, vertexAt, ends, mapped, FirstUse}
 use Rattle.demands.specs.Labelling.{labelAt}
 use Rattle.demands.specs.Classed.{Used}
 use Rattle.demands.specs.Counted.{Counted}
@@ -173,7 +173,7 @@ module _ (l : List ℤ) (labels : List ℕ) (same : length labels ≡ length (co
     once = λ u v h k e. e;
   }
 
-  module _ (x : ℕ) (h : x < length (corners l)) where
+  module _ (x : ℕ) (h : Corner l x) where
     -- the earliest corner of x's label
     abbrev earliest : ℕ
     earliest = placeIn (labelAt labels x) labels
@@ -196,14 +196,14 @@ module _ (l : List ℤ) (labels : List ℕ) (same : length labels ≡ length (co
 
   -- corners of one label have one entry
   abbrev pub Refines : Type 0
-  Refines = (x y : ℕ) → x < length (corners l) → y < length (corners l) → labelAt labels x ≡ labelAt labels y → getD (corners l) x (pos 0) ≡ getD (corners l) y (pos 0)
+  Refines = (x y : ℕ) → Corner l x → Corner l y → labelAt labels x ≡ labelAt labels y → getD (corners l) x (pos 0) ≡ getD (corners l) y (pos 0)
 
   -- a map gives the list back exactly when it gives each corner's entry for its new vertex
   number-back : (m : List ℤ) → Back m (corners l) (newNumbers labels) → mapped m (newListOf l labels) ≡ l
   unfolding newListOf
   number-back m = refilled-back m l (newNumbers labels) numbers-fit
 
-  pub back-number : (m : List ℤ) → mapped m (newListOf l labels) ≡ l → (x : ℕ) → x < length (corners l) → getD m (getD (newNumbers labels) x 0) (pos 0) ≡ getD (corners l) x (pos 0)
+  pub back-number : (m : List ℤ) → mapped m (newListOf l labels) ≡ l → (x : ℕ) → Corner l x → getD m (getD (newNumbers labels) x 0) (pos 0) ≡ getD (corners l) x (pos 0)
   unfolding newListOf
   back-number m e = back-refilled m l (newNumbers labels) numbers-fit e
 

@@ -13,7 +13,7 @@ use lib.ListN.{length, getD}
 use lib.Seq.{ext-getD}
 use Rattle.list.specs.Faces.{isEnd, end, corners}
 use Rattle.cut.specs.Renumber.{newListOf, newVertices, mapOf}
-use Rattle.demands.specs.Renumbered.{vertexAt, ends, mapped, FirstUse}
+use Rattle.demands.specs.Renumbered.{Corner, vertexAt, ends, mapped, FirstUse}
 use Rattle.demands.specs.Labelling.{labelAt}
 use Rattle.demands.proofs.Numbering.{new-ends, new-corners-length, new-entry, new-vertex, first-use, same-number, same-label, number-used, map-length, back-number}
 
@@ -79,7 +79,7 @@ order-only c f g f-order g-order both (suc b) x h k = go (ltb (f x) (g x)) refl 
 
 module _ (l : List ℤ) (labels : List ℕ) (same : length labels ≡ length (corners l)) where
   -- the list numbered afresh is the only one
-  pub new-only : (k : List ℤ) → ends k ≡ ends l → ((x : ℕ) → x < length (corners l) → getD (corners k) x (pos 0) ≡ pos (vertexAt k x)) → FirstUse k → ((x y : ℕ) → x < length (corners l) → y < length (corners l) → (vertexAt k x ≡ vertexAt k y) ↔ (labelAt labels x ≡ labelAt labels y)) → k ≡ newListOf l labels
+  pub new-only : (k : List ℤ) → ends k ≡ ends l → ((x : ℕ) → Corner l x → getD (corners k) x (pos 0) ≡ pos (vertexAt k x)) → FirstUse k → ((x y : ℕ) → Corner l x → Corner l y → (vertexAt k x ≡ vertexAt k y) ↔ (labelAt labels x ≡ labelAt labels y)) → k ≡ newListOf l labels
   new-only k k-ends k-entries k-order k-same = same-list k new (k-ends ∙ sym (new-ends l labels same)) (ext-getD (pos 0) (corners k) (corners new) (k-long ∙ sym (new-corners-length l labels same)) each)
     where
       new : List ℤ
@@ -88,22 +88,22 @@ module _ (l : List ℤ) (labels : List ℕ) (same : length labels ≡ length (co
       k-long : length (corners k) ≡ length (corners l)
       k-long = as-many-corners k l k-ends
 
-      both : (x y : ℕ) → x < length (corners l) → y < length (corners l) → (vertexAt k x ≡ vertexAt k y) ↔ (vertexAt new x ≡ vertexAt new y)
+      both : (x y : ℕ) → Corner l x → Corner l y → (vertexAt k x ≡ vertexAt k y) ↔ (vertexAt new x ≡ vertexAt new y)
       both x y h j = (
         λ e. new-vertex l labels same x ∙ same-number labels x y (omega arith) (omega arith) (k-same x y h j .0 e) ∙ sym (new-vertex l labels same y),
         λ e. k-same x y h j .1 (same-label labels x y (omega arith) (omega arith) (sym (new-vertex l labels same x) ∙ e ∙ new-vertex l labels same y)),
       )
 
-      vertex : (x : ℕ) → x < length (corners l) → vertexAt k x ≡ vertexAt new x
+      vertex : (x : ℕ) → Corner l x → vertexAt k x ≡ vertexAt new x
       vertex x h =
           order-only (length (corners l)) (vertexAt k) (vertexAt new)
           (λ x h. k-order x (omega (arith, k-long)))
           (λ x h. first-use l labels same x (omega (arith, new-corners-length l labels same)))
           both (suc x) x (omega arith) h
 
-      each : (x : ℕ) → x < length (corners k) → getD (corners k) x (pos 0) ≡ getD (corners new) x (pos 0)
+      each : (x : ℕ) → Corner k x → getD (corners k) x (pos 0) ≡ getD (corners new) x (pos 0)
       each x h =
-          let b : x < length (corners l) = omega (arith, k-long) in
+          let b : Corner l x = omega (arith, k-long) in
           k-entries x b ∙ ap pos (vertex x b ∙ new-vertex l labels same x) ∙ sym (new-entry l labels same x)
 
   -- and so is the map that gives the list back
@@ -112,6 +112,6 @@ module _ (l : List ℤ) (labels : List ℕ) (same : length labels ≡ length (co
       ext-getD (pos 0) m (mapOf l labels) (long ∙ sym (map-length l labels same))
       (λ v h.
       let r = number-used labels v (omega arith) in
-      let b : r .0 < length (corners l) = omega (arith, r .1) in
+      let b : Corner l (r .0) = omega (arith, r .1) in
       ap (λ (k : ℕ). getD m k (pos 0)) (sym (r .2)) ∙ back-number l labels same m back (r .0) b ∙
       sym (back-number l labels same (mapOf l labels) own (r .0) b) ∙ ap (λ (k : ℕ). getD (mapOf l labels) k (pos 0)) (r .2))

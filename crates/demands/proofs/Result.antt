@@ -17,7 +17,7 @@ use Rattle.edges.proofs.Mates.{sharing, sharing-faces, sharing-rises, in-sharin
 use Rattle.cut.specs.Groups.{links, groupsOfUses}
 use Rattle.cut.specs.Renumber.{newListOf, newVertices}
 use Rattle.demands.specs.Joined.{Joined, link, Side, starts, stops, opposite}
-use Rattle.demands.specs.Renumbered.{vertexAt}
+use Rattle.demands.specs.Renumbered.{Corner, vertexAt}
 use Rattle.demands.specs.Linked.{useAt, cornerBy, Across, OneFan}
 use Rattle.demands.proofs.Equivalence.{joined-equal, joined-through}
 use Rattle.demands.proofs.Walk.{Free, Met, three-free}
@@ -64,7 +64,7 @@ module _ (J : Use → Bool) (l : List ℤ) (n : ℕ) (v : Valid l n) where
   result-cornerBy e stops = result-next e
 
   -- corners have the same new vertex exactly when they are joined
-  module _ (x y : ℕ) (x-below : x < length (corners l)) (y-below : y < length (corners l)) where
+  module _ (x y : ℕ) (x-below : Corner l x) (y-below : Corner l y) where
     pub joined-new : Joined (Met (Crossing J l)) x y → vertexAt result x ≡ vertexAt result y
     joined-new j =
         new-vertex l groups groups-length x ∙
@@ -77,7 +77,7 @@ module _ (J : Use → Bool) (l : List ℤ) (n : ℕ) (v : Valid l n) where
         (same-label groups x y (omega (arith, groups-length)) (omega (arith, groups-length)) (sym (new-vertex l groups groups-length x) ∙ e ∙ new-vertex l groups groups-length y))
 
   -- a corner's side at an edge with three faces is free
-  crowded : (e : ℕ) (s : Side) → e < length (corners l) → 3 ≤ facesOn l (useAt l e .from) (useAt l e .to) → Free (Crossing J l) (cornerBy l e s) s
+  crowded : (e : ℕ) (s : Side) → Corner l e → 3 ≤ facesOn l (useAt l e .from) (useAt l e .to) → Free (Crossing J l) (cornerBy l e s) s
   crowded e s h many y t c =
       let a = c .across in
       let is-e : a .one ≡ e = side-once l cornered (a .one) e s (a .one-below) h (sym (a .x-is)) in
@@ -88,7 +88,7 @@ module _ (J : Use → Bool) (l : List ℤ) (n : ℕ) (v : Valid l n) where
   abbrev On : ℕ → ℕ → ℕ → Type 0
   On a b e = (s : Side) × (vertexAt result (cornerBy l e s) ≡ a) × (vertexAt result (cornerBy l e (opposite s)) ≡ b)
 
-  on-edge-by : (a b e : ℕ) → e < length (corners l) → onEdge a b (useAt result e) ≡ true → On a b e
+  on-edge-by : (a b e : ℕ) → Corner l e → onEdge a b (useAt result e) ≡ true → On a b e
   on-edge-by a b e h o = go (edge-vertices result e (omega (arith, result-corners)) a b o)
     where
       go : ((vertexAt result e ≡ a) × (vertexAt result (next result e) ≡ b)) ⊎ ((vertexAt result e ≡ b) × (vertexAt result (next result e) ≡ a)) → On a b e
@@ -96,7 +96,7 @@ module _ (J : Use → Bool) (l : List ℤ) (n : ℕ) (v : Valid l n) where
       go (inr p) = (stops, ap (vertexAt result) (sym (result-next e)) ∙ p .1, p .0)
 
   -- two uses of one new edge
-  module _ (a b e f : ℕ) (e-below : e < length (corners l)) (f-below : f < length (corners l)) (on-e : On a b e) (on-f : On a b f) where
+  module _ (a b e f : ℕ) (e-below : Corner l e) (f-below : Corner l f) (on-e : On a b e) (on-f : On a b f) where
     abbrev s : Side
     s = on-e .0
 
@@ -115,7 +115,7 @@ module _ (J : Use → Bool) (l : List ℤ) (n : ℕ) (v : Valid l n) where
     two-ends : (e ≡ f → ⊥) → cornerBy l e s ≡ cornerBy l f t → ⊥
     two-ends e≢f p = e≢f (corner-once l cornered e f s t e-below f-below p (joined-vertex others-joined))
 
-  three-uses : (a b e f g : ℕ) → e < f → f < g → g < length (corners l) → On a b e → On a b f → On a b g → ⊥
+  three-uses : (a b e f g : ℕ) → e < f → f < g → Corner l g → On a b e → On a b f → On a b g → ⊥
   three-uses a b e f g e<f f<g g-below on-e on-f on-g =
       three-free (crossing-meets J l cornered)
       (crowded e (on-e .0) e-below (three-faces l cornered e f g e-below f-below g-below (old-ends a b f e f-below e-below on-f on-e) (old-ends a b g e g-below e-below on-g on-e) (omega arith) (omega arith) (omega arith)))
@@ -127,23 +127,23 @@ module _ (J : Use → Bool) (l : List ℤ) (n : ℕ) (v : Valid l n) where
       (two-ends a b g e g-below e-below on-g on-e (omega arith))
       (two-ends a b g f g-below f-below on-g on-f (omega arith))
     where
-      e-below : e < length (corners l)
+      e-below : Corner l e
       e-below = omega arith
 
-      f-below : f < length (corners l)
+      f-below : Corner l f
       f-below = omega arith
 
   -- each edge of the result has at most two faces
   pub result-edges : (a b : ℕ) → facesOn result a b ≤ 2
   result-edges a b = rw (sharing-faces result a b) at (go (sharing result a b) (sharing-rises result a b) each)
     where
-      each : (e : ℕ) → In e (sharing result a b) → (e < length (corners l)) × On a b e
+      each : (e : ℕ) → In e (sharing result a b) → Corner l e × On a b e
       each e i =
           let r = in-sharing result a b e i in
-          let h : e < length (corners l) = omega (arith, r .0, uses-long result, result-corners) in
+          let h : Corner l e = omega (arith, r .0, uses-long result, result-corners) in
           (h, on-edge-by a b e h (r .1))
 
-      go : (xs : List ℕ) → Rising 0 xs → ((e : ℕ) → In e xs → (e < length (corners l)) × On a b e) → length xs ≤ 2
+      go : (xs : List ℕ) → Rising 0 xs → ((e : ℕ) → In e xs → Corner l e × On a b e) → length xs ≤ 2
       go [] r each = omega arith
       go (e ∷ []) r each = omega arith
       go (e ∷ f ∷ []) r each = omega arith
@@ -190,8 +190,8 @@ module _ (J : Use → Bool) (l : List ℤ) (n : ℕ) (v : Valid l n) where
   crossing-result {x} {y} {s} {t} c =
       let e = c .across .one in
       let f = c .across .two in
-      let e-below : e < length (corners result) = rw result-corners (c .across .one-below) in
-      let f-below : f < length (corners result) = rw result-corners (c .across .two-below) in
+      let e-below : Corner result e = rw result-corners (c .across .one-below) in
+      let f-below : Corner result f = rw result-corners (c .across .two-below) in
       let x-is : x ≡ cornerBy result e s = c .across .x-is ∙ sym (result-cornerBy e s) in
       let y-is : y ≡ cornerBy result f t = c .across .y-is ∙ sym (result-cornerBy f t) in
       let here : vertexAt result (cornerBy result f t) ≡ vertexAt result (cornerBy result e s) = ap (vertexAt result) (sym y-is) ∙ sym (crossing-new c) ∙ ap (vertexAt result) x-is in

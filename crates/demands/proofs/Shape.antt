@@ -20,7 +20,7 @@ use Rattle.edges.specs.Table.{nextWords}
 use Rattle.edges.proofs.Lists.{map-append}
 use Rattle.edges.proofs.Uses.{noUse, joined, corners-joined}
 use Rattle.cut.specs.Renumber.{distinct, newNumbers, newListOf, newVertices}
-use Rattle.demands.specs.Renumbered.{ends}
+use Rattle.demands.specs.Renumbered.{Corner, ends}
 use Rattle.demands.proofs.Distinct.{different-fit, distinct-different, distinct-of}
 use Rattle.demands.proofs.Numbering.{new-ends, new-entry, number-below, same-label, Refines}
 use Rattle.demands.proofs.Corners.{next}
@@ -125,7 +125,7 @@ module _ (l : List ℤ) (n : ℕ) (v : Valid l n) (labels : List ℕ) (same : le
       old-entry : getD (corners l) (place i) (pos 0) ≡ getD (getD (runs l) k []) i (pos 0)
       old-entry = rw (corners-joined l) (face-corners (runs l) k i h′ (omega (arith, as-long)) .1)
 
-      place-below : place i < length (corners l)
+      place-below : Corner l (place i)
       place-below = rw (corners-joined l) (face-corners (runs l) k i h′ (omega (arith, as-long)) .0)
 
       new-at : getD (getD (runs new) k []) i (pos 0) ≡ pos (getD (newNumbers labels) (place i) 0)

@@ -3,7 +3,7 @@
 use mathlib.Core.Path.{_≡_, refl, sym}
 use mathlib.Core.Logic.{_⊎_, inl, inr}
 use Rattle.demands.specs.Joined.{Joined, same, Side, starts, stops, opposite}
-use Rattle.demands.proofs.Equivalence.{joined-least}
+use Rattle.demands.proofs.Equivalence.{joined-carries}
 
 -- the walk from the side s of x comes to y by its side t
 data Walk {X : Type 0} (M : X → Side → X → Side → Type 0) (x : X) (s : Side) : X → Side → Type 0 where
@@ -60,18 +60,10 @@ module _ {X : Type 0} {M : X → Side → X → Side → Type 0} (meeting : Meet
   -- and so the whole group
   walk-all : {x y : X} {s : Side} → Free M x s → Joined (Met M) x y → (t : Side) × Walk M x s y t
   walk-all {x} {y} {s} free j =
-      both j .0 (s, begin refl refl)
-    where
-      Visited : X → Type 0
-      Visited z = (t : Side) × Walk M x s z t
-
-      both : {y z : X} → Joined (Met M) y z → (Visited y → Visited z) × (Visited z → Visited y)
-      both j = joined-least (λ (y z : X). (Visited y → Visited z) × (Visited z → Visited y))
-          (λ y z met. (λ v. walk-visits free (v .1) (met .2), λ v. walk-visits free (v .1) (meeting .meet-back (met .2))))
-          (λ y z e. (λ v. rw e at v, λ v. rw (← e) at v))
-          (λ y z b. (b .1, b .0))
-          (λ y z w b c. (λ v. c .0 (b .0 v), λ v. b .1 (c .1 v)))
-          j
+      joined-carries (λ (z : X). (t : Side) × Walk M x s z t)
+      (λ y z m. (λ w. walk-visits free (w .1) (m .2), λ w. walk-visits free (w .1) (meeting .meet-back (m .2))))
+      j
+      .0 (s, begin refl refl)
 
   -- a corner other than the first that has a free side is left by that side: the walk ends there
   walk-ends : {x y : X} {s t u : Side} → (y ≡ x → ⊥) → Walk M x s y t → Free M y u → Free M y (opposite t)

@@ -5,19 +5,17 @@
 --   EndsSingular l v    v is an endpoint of a singular edge
 --   EndsBoundary l v    v is an endpoint of a boundary edge
 --   ManyFans l v        v has more than one fan: two of its corners are joined by no links
-use Prim.Native.Nat.{ℕ, _≤_, _<_}
+use Prim.Native.Nat.{ℕ, _≤_}
 use mathlib.Core.Path.{_≡_}
 use mathlib.Core.List.{List}
 use lib.IntN.{ℤ}
-use lib.ListN.{length}
-use Rattle.list.specs.Faces.{corners}
 use Rattle.edges.specs.Uses.{facesOn}
 use Rattle.demands.specs.Joined.{Joined}
-use Rattle.demands.specs.Renumbered.{vertexAt}
+use Rattle.demands.specs.Renumbered.{Corner, vertexAt}
 use Rattle.demands.specs.Linked.{Linked}
 
 abbrev pub Used : List ℤ → ℕ → Type 0
-Used l v = (x : ℕ) × (x < length (corners l)) × (vertexAt l x ≡ v)
+Used l v = (x : ℕ) × Corner l x × (vertexAt l x ≡ v)
 
 abbrev pub Standalone : List ℤ → ℕ → Type 0
 Standalone l v = Used l v → ⊥
@@ -31,8 +29,8 @@ EndsBoundary l v = (w : ℕ) × (facesOn l v w ≡ 1)
 pub record ManyFans (l : List ℤ) (v : ℕ) : Type 0 where
   pub one : ℕ
   pub two : ℕ
-  pub one-below : one < length (corners l)
-  pub two-below : two < length (corners l)
+  pub one-below : Corner l one
+  pub two-below : Corner l two
   pub one-on : vertexAt l one ≡ v
   pub two-on : vertexAt l two ≡ v
   pub apart : Joined (Linked l) one two → ⊥

@@ -6,17 +6,16 @@
 --                        those of x and y
 --   Linked l x y         the faces of x and y are the only two faces on an edge at their vertex
 --   OneFan l             round each vertex every corner is reached from every other across edges with two faces
-use Prim.Native.Nat.{ℕ, _<_}
+use Prim.Native.Nat.{ℕ}
 use mathlib.Core.Path.{_≡_}
 use mathlib.Core.List.{List}
 use mathlib.Core.Bool.{true}
 use lib.IntN.{ℤ}
-use lib.ListN.{length, getD}
-use Rattle.list.specs.Faces.{corners}
+use lib.ListN.{getD}
 use Rattle.edges.specs.Uses.{Use, uses, onEdge, facesOn}
 use Rattle.cut.specs.Groups.{noUse}
 use Rattle.demands.specs.Joined.{Joined, Side, starts, stops}
-use Rattle.demands.specs.Renumbered.{vertexAt}
+use Rattle.demands.specs.Renumbered.{Corner, vertexAt}
 
 abbrev pub useAt : List ℤ → ℕ → Use
 useAt l e = getD (uses l) e noUse
@@ -29,8 +28,8 @@ pub record Across (l : List ℤ) (x : ℕ) (s : Side) (y : ℕ) (t : Side) : Typ
   -- the two uses of the edge, by the corners where they start
   pub one : ℕ
   pub two : ℕ
-  pub one-below : one < length (corners l)
-  pub two-below : two < length (corners l)
+  pub one-below : Corner l one
+  pub two-below : Corner l two
   pub differ : one ≡ two → ⊥
   pub same-edge : onEdge (useAt l one .from) (useAt l one .to) (useAt l two) ≡ true
   pub two-faces : facesOn l (useAt l one .from) (useAt l one .to) ≡ 2
@@ -42,4 +41,4 @@ abbrev pub Linked : List ℤ → ℕ → ℕ → Type 0
 Linked l x y = (s : Side) × (t : Side) × Across l x s y t
 
 abbrev pub OneFan : List ℤ → Type 0
-OneFan l = (x y : ℕ) → x < length (corners l) → y < length (corners l) → vertexAt l x ≡ vertexAt l y → Joined (Linked l) x y
+OneFan l = (x y : ℕ) → Corner l x → Corner l y → vertexAt l x ≡ vertexAt l y → Joined (Linked l) x y

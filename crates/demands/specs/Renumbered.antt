@@ -1,6 +1,7 @@
 -- What is said of a list and of its renumbered copy (document 01, "Edges, fans and classes", 4 and 5).
 --
---   vertexAt l x     the vertex of corner x of the list l
+--   Corner l x       x is a corner of the list l
+--   vertexAt l x     the vertex of corner x
 --   ends l           for each position whether the entry there is -1
 --   mapped m l       the list l, each index replaced by its entry of the map m
 --   FirstUse l       the vertices are numbered 0, 1, 2 in the order of first use: each vertex below that of a corner is that of an
@@ -13,6 +14,9 @@ use lib.IntN.{ℤ, pos}
 use lib.ListN.{length, getD}
 use Rattle.list.specs.Faces.{isEnd, corners, num}
 
+abbrev pub Corner : List ℤ → ℕ → Type 0
+Corner l x = x < length (corners l)
+
 abbrev pub vertexAt : List ℤ → ℕ → ℕ
 vertexAt l x = num (getD (corners l) x (pos 0))
 
@@ -24,4 +28,4 @@ mapped m [] = []
 mapped m (x ∷ xs) = cond (isEnd x) x (getD m (num x) (pos 0)) ∷ mapped m xs
 
 abbrev pub FirstUse : List ℤ → Type 0
-FirstUse l = (x : ℕ) → x < length (corners l) → (v : ℕ) → v < vertexAt l x → (y : ℕ) × (y < x) × (vertexAt l y ≡ v)
+FirstUse l = (x : ℕ) → Corner l x → (v : ℕ) → v < vertexAt l x → (y : ℕ) × (y < x) × (vertexAt l y ≡ v)
