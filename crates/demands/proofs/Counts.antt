@@ -10,9 +10,9 @@ use lib.Dec.{eqb, ltb}
 use lib.IntN.{ℤ}
 use lib.ListN.{length, getD, length-map}
 use Rattle.list.specs.Check.{Valid}
-use Rattle.edges.specs.Choose.{choose}
+use Rattle.edges.specs.Choose.{choose, upFrom}
 use Rattle.edges.specs.Uses.{Use, uses, lo, hi, isBoundary, isSingular, startsMany, startsSingular, singularEdges}
-use Rattle.edges.proofs.Lists.{In, in-choose, in-chosen, choose-map, upFrom, in-upFrom, upFrom-in, Rising, rising-upFrom, rising-choose, rising-above, all-at, from-table}
+use Rattle.edges.proofs.Lists.{In, in-choose, in-chosen, in-at, choose-map, in-upFrom, upFrom-in, Rising, rising-upFrom, rising-choose, rising-above, all-at, from-table}
 use Rattle.edges.proofs.Uses.{noUse, corner-at}
 use Rattle.edges.proofs.Faces.{on-edge, use-proper, Proper}
 use Rattle.edges.proofs.Mates.{sharing, sharing-is, sharing-faces, in-sharing}
@@ -20,7 +20,7 @@ use Rattle.cut.specs.Groups.{countFrom}
 use Rattle.cut.specs.Classes.{hasFace, endsEdge, fansAt, classOf, classesOf, isSingularClass, singularVertices}
 use Rattle.demands.specs.Linked.{useAt}
 use Rattle.demands.specs.Counted.{Counted, SingularEdge, SingularVertex}
-use Rattle.demands.proofs.Distinct.{equal-or-not, in-at}
+use Rattle.demands.proofs.Distinct.{equal-or-not, at-in}
 
 -- numbers that rise stand at one place each
 
@@ -38,17 +38,12 @@ rising-once s xs i j r h k e = go (ltb i j) refl (ltb j i) refl
     go false p true q = absurd (omega (arith, rising-order s xs j i r (ltb-true j i q) h))
     go false p false q = omega (arith, ltb-false i j p, ltb-false j i q)
 
-in-place : (x : ℕ) (xs : List ℕ) → In x xs → (i : ℕ) × (i < length xs) × (getD xs i 0 ≡ x)
-in-place x [] i = absurd i
-in-place x (y ∷ ys) (inl e) = (0, omega arith, sym e)
-in-place x (y ∷ ys) (inr i) = let r = in-place x ys i in (suc (r .0), omega (arith, r .1), r .2)
-
 -- the numbers below m that pass a test are counted by choosing them
 counted-chosen : (p : ℕ → Bool) (m : ℕ) → Counted (λ (x : ℕ). (x < m) × (p x ≡ true)) (length (choose p (upFrom 0 m)))
 counted-chosen p m = record {
   nth = λ i. getD xs i 0;
-  each = λ i h. let r = in-chosen p (getD xs i 0) (upFrom 0 m) (in-at xs i h) in (omega (arith, upFrom-in 0 m (getD xs i 0) (r .0)), r .1);
-  all = λ x h. in-place x xs (in-choose p x (upFrom 0 m) (in-upFrom 0 m x (omega arith) (omega (arith, h .0))) (h .1));
+  each = λ i h. let r = in-chosen p (getD xs i 0) (upFrom 0 m) (at-in xs i h) in (omega (arith, upFrom-in 0 m (getD xs i 0) (r .0)), r .1);
+  all = λ x h. in-at 0 x xs (in-choose p x (upFrom 0 m) (in-upFrom 0 m x (omega arith) (omega (arith, h .0))) (h .1));
   once = λ i j h k e. rising-once 0 xs i j (rising-choose p 0 (upFrom 0 m) (rising-upFrom 0 m)) h k e;
 }
   where

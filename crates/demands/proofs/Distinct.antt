@@ -167,10 +167,10 @@ place-holds x (y ∷ ys) i = go (eqb x y) refl i (place-holds x ys)
     go false e (inl p) ih = absurd (eqb-false x y e p)
     go false e (inr i) ih = ih i
 
-pub in-at : (xs : List ℕ) (i : ℕ) → i < length xs → In (getD xs i 0) xs
-in-at [] i h = absurd (omega arith)
-in-at (x ∷ xs) zero h = inl refl
-in-at (x ∷ xs) (suc i) h = inr (in-at xs i (omega arith))
+pub at-in : (xs : List ℕ) (i : ℕ) → i < length xs → In (getD xs i 0) xs
+at-in [] i h = absurd (omega arith)
+at-in (x ∷ xs) zero h = inl refl
+at-in (x ∷ xs) (suc i) h = inr (at-in xs i (omega arith))
 
 -- an element that stands further behind in the list of different elements was first used after the others
 after-order : (seen xs : List ℕ) (i k : ℕ) → i < length xs → isIn (getD xs i 0) seen ≡ false → k < placeIn (getD xs i 0) (distinctAfter seen xs) → (j : ℕ) × (j < i) × (getD xs j 0 ≡ getD (distinctAfter seen xs) k 0)
@@ -211,7 +211,7 @@ pub place-at : (xs : List ℕ) (i : ℕ) → Different xs → i < length xs → 
 place-at [] i d h = absurd (omega arith)
 place-at (x ∷ xs) zero d h = rw (eq-eqb x x refl)
 place-at (x ∷ xs) (suc i) d h =
-    let other : getD xs i 0 ≡ x → ⊥ = λ e. d .0 (rw e at (in-at xs i (omega arith))) in
+    let other : getD xs i 0 ≡ x → ⊥ = λ e. d .0 (rw e at (at-in xs i (omega arith))) in
     rw (ne-eqb (getD xs i 0) x other) (ap suc (place-at xs i (d .1) (omega arith)))
 
 -- three different elements make a list of at least three

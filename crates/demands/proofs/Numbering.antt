@@ -16,7 +16,7 @@ use Rattle.demands.specs.Renumbered.{Corner, vertexAt, ends, mapped, Fir
 use Rattle.demands.specs.Labelling.{labelAt}
 use Rattle.demands.specs.Classed.{Used}
 use Rattle.demands.specs.Counted.{Counted}
-use Rattle.demands.proofs.Distinct.{distinct-has, distinct-of, distinct-different, place-below, place-holds, place-at, in-at, distinct-order}
+use Rattle.demands.proofs.Distinct.{distinct-has, distinct-of, distinct-different, place-below, place-holds, place-at, at-in, distinct-order}
 
 pub getD-mapped : {A B : Type 0} (f : A → B) (xs : List A) (i : ℕ) (d : A) (b : B) → i < length xs → getD (map f xs) i b ≡ f (getD xs i d)
 getD-mapped f [] i d b h = absurd (omega arith)
@@ -97,7 +97,7 @@ module _ (labels : List ℕ) where
     number-is = getD-mapped (λ (x : ℕ). placeIn x (distinct labels)) labels x 0 0 h
 
     label-in : In (labelAt labels x) (distinct labels)
-    label-in = distinct-has (labelAt labels x) labels (in-at labels x h)
+    label-in = distinct-has (labelAt labels x) labels (at-in labels x h)
 
     pub number-below : getD (newNumbers labels) x 0 < newVertices labels
     number-below = rw number-is (place-below (labelAt labels x) (distinct labels) label-in)
@@ -124,7 +124,7 @@ module _ (labels : List ℕ) where
   pub number-used : (k : ℕ) → k < newVertices labels → (x : ℕ) × (x < length labels) × (getD (newNumbers labels) x 0 ≡ k)
   number-used k h =
       let z = getD (distinct labels) k 0 in
-      let i : In z labels = distinct-of z labels (in-at (distinct labels) k h) in
+      let i : In z labels = distinct-of z labels (at-in (distinct labels) k h) in
       let x = placeIn z labels in
       let b : x < length labels = place-below z labels i in
       (x, b, number-is x b ∙ ap (λ (w : ℕ). placeIn w (distinct labels)) (place-holds z labels i) ∙ place-at (distinct labels) k (distinct-different labels) h)
@@ -179,7 +179,7 @@ module _ (l : List ℤ) (labels : List ℕ) (same : length labels ≡ length (co
     earliest = placeIn (labelAt labels x) labels
 
     x-in : In (labelAt labels x) labels
-    x-in = in-at labels x (omega arith)
+    x-in = at-in labels x (omega arith)
 
     earliest-below : earliest < length labels
     earliest-below = place-below (labelAt labels x) labels x-in
