@@ -105,47 +105,48 @@ onto-exact f ds gs different onto few x y x-in y-in e = ⊎-elim (λ p. p) (λ n
     spare : (x ≡ y → ⊥) → ⊥
     spare n = omega (arith, onto-fit f (without x ds) gs different (fewer n), without-length x ds x-in, few)
 
--- the different elements of a list are its elements, and different
+-- how the different elements of a list that are not among seen come about
+data After : List ℕ → List ℕ → List ℕ → Type 0 where
+  none : {seen : List ℕ} → After seen [] []
+  old : {seen xs ds : List ℕ} {x : ℕ} → isIn x seen ≡ true → After seen xs ds → After seen (x ∷ xs) ds
+  new : {seen xs ds : List ℕ} {x : ℕ} → isIn x seen ≡ false → After (x ∷ seen) xs ds → After seen (x ∷ xs) (x ∷ ds)
 
-after-has : (seen : List ℕ) (x : ℕ) (xs : List ℕ) → In x xs → isIn x seen ≡ false → In x (distinctAfter seen xs)
-after-has seen x [] i n = i
-after-has seen x (y ∷ ys) i n = go (isIn y seen) refl i (λ i. after-has seen x ys i n) (after-has (y ∷ seen) x ys)
+after : (seen xs : List ℕ) → After seen xs (distinctAfter seen xs)
+after seen [] = none
+after seen (x ∷ xs) = go (isIn x seen) refl (after seen xs) (after (x ∷ seen) xs)
   where
-    go : (b : Bool) → isIn y seen ≡ b → (x ≡ y) ⊎ In x ys → (In x ys → In x (distinctAfter seen ys)) → (In x ys → isIn x (y ∷ seen) ≡ false → In x (distinctAfter (y ∷ seen) ys)) → In x (cond b (distinctAfter seen ys) (y ∷ distinctAfter (y ∷ seen) ys))
-    go true e (inl p) old new = absurd (true≢false (sym e ∙ ap (λ (z : ℕ). isIn z seen) (sym p) ∙ n))
-    go true e (inr i) old new = old i
-    go false e (inl p) old new = inl p
-    go false e (inr i) old new = first (eqb x y) refl
-      where
-        first : (b : Bool) → eqb x y ≡ b → (x ≡ y) ⊎ In x (distinctAfter (y ∷ seen) ys)
-        first true q = inl (eqb-true x y q)
-        first false q = inr (new i (rw (q, n)))
+    go : (b : Bool) → isIn x seen ≡ b → {os ns : List ℕ} → After seen xs os → After (x ∷ seen) xs ns → After seen (x ∷ xs) (cond b os (x ∷ ns))
+    go true e o n = old e o
+    go false e o n = new e n
 
-after-of : (seen : List ℕ) (x : ℕ) (xs : List ℕ) → In x (distinctAfter seen xs) → In x xs × (In x seen → ⊥)
-after-of seen x [] i = absurd i
-after-of seen x (y ∷ ys) i = go (isIn y seen) refl i (after-of seen x ys) (after-of (y ∷ seen) x ys)
-  where
-    go : (b : Bool) → isIn y seen ≡ b → In x (cond b (distinctAfter seen ys) (y ∷ distinctAfter (y ∷ seen) ys)) → (In x (distinctAfter seen ys) → In x ys × (In x seen → ⊥)) → (In x (distinctAfter (y ∷ seen) ys) → In x ys × (In x (y ∷ seen) → ⊥)) → In x (y ∷ ys) × (In x seen → ⊥)
-    go true e i old new = let r = old i in (inr (r .0), r .1)
-    go false e (inl p) old new = (inl p, λ j. true≢false (sym (isIn-true y seen (rw p at j)) ∙ e))
-    go false e (inr i) old new = let r = new i in (inr (r .0), λ j. r .1 (inr j))
+-- they are elements of the list, not among seen, and different
 
-after-different : (seen xs : List ℕ) → Different (distinctAfter seen xs)
-after-different seen [] = tt
-after-different seen (y ∷ ys) = go (isIn y seen) (after-different seen ys) (after-different (y ∷ seen) ys)
-  where
-    go : (b : Bool) → Different (distinctAfter seen ys) → Different (distinctAfter (y ∷ seen) ys) → Different (cond b (distinctAfter seen ys) (y ∷ distinctAfter (y ∷ seen) ys))
-    go true old new = old
-    go false old new = (λ i. after-of (y ∷ seen) y ys i .1 (inl refl), new)
+after-has : {seen xs ds : List ℕ} (x : ℕ) → After seen xs ds → In x xs → (In x seen → ⊥) → In x ds
+after-has x none i n = i
+after-has {seen} x (old {x = y} p a) (inl e) n = absurd (n (rw e (isIn-in y seen p)))
+after-has x (old p a) (inr i) n = after-has x a i n
+after-has x (new p a) (inl e) n = inl e
+after-has x (new {x = y} p a) (inr i) n = ⊎-elim (λ e. inl e) (λ d. inr (after-has x a i (⊎-elim d n))) (equal-or-not x y)
+
+after-of : {seen xs ds : List ℕ} (x : ℕ) → After seen xs ds → In x ds → In x xs × (In x seen → ⊥)
+after-of x none i = absurd i
+after-of x (old p a) i = let r = after-of x a i in (inr (r .0), r .1)
+after-of {seen} x (new {x = y} p a) (inl e) = (inl e, λ j. true≢false (sym (isIn-true y seen (rw e at j)) ∙ p))
+after-of x (new p a) (inr i) = let r = after-of x a i in (inr (r .0), λ j. r .1 (inr j))
+
+after-different : {seen xs ds : List ℕ} → After seen xs ds → Different ds
+after-different none = tt
+after-different (old p a) = after-different a
+after-different (new {x = x} p a) = (λ i. after-of x a i .1 (inl refl), after-different a)
 
 pub distinct-has : (x : ℕ) (xs : List ℕ) → In x xs → In x (distinct xs)
-distinct-has x xs i = after-has [] x xs i refl
+distinct-has x xs i = after-has x (after [] xs) i (λ i. i)
 
 pub distinct-of : (x : ℕ) (xs : List ℕ) → In x (distinct xs) → In x xs
-distinct-of x xs i = after-of [] x xs i .0
+distinct-of x xs i = after-of x (after [] xs) i .0
 
 pub distinct-different : (xs : List ℕ) → Different (distinct xs)
-distinct-different xs = after-different [] xs
+distinct-different xs = after-different (after [] xs)
 
 -- the place of an element
 
@@ -172,40 +173,24 @@ at-in [] i h = absurd (omega arith)
 at-in (x ∷ xs) zero h = inl refl
 at-in (x ∷ xs) (suc i) h = inr (at-in xs i (omega arith))
 
--- an element that stands further behind in the list of different elements was first used after the others
-after-order : (seen xs : List ℕ) (i k : ℕ) → i < length xs → isIn (getD xs i 0) seen ≡ false → k < placeIn (getD xs i 0) (distinctAfter seen xs) → (j : ℕ) × (j < i) × (getD xs j 0 ≡ getD (distinctAfter seen xs) k 0)
-after-order seen [] i k h n b = absurd (omega arith)
-after-order seen (y ∷ ys) zero k h n b = absurd (go (isIn y seen) refl b)
+-- an element that stands further behind among the different ones was first used after the others
+after-order : {seen xs ds : List ℕ} → After seen xs ds → (i k : ℕ) → i < length xs → (In (getD xs i 0) seen → ⊥) → k < placeIn (getD xs i 0) ds → (j : ℕ) × (j < i) × (getD xs j 0 ≡ getD ds k 0)
+after-order none i k h n b = absurd (omega arith)
+after-order {seen} (old {x = y} p a) zero k h n b = absurd (n (isIn-in y seen p))
+after-order (old p a) (suc i) k h n b = let r = after-order a i k (omega arith) n b in (suc (r .0), omega (arith, r .1), r .2)
+after-order (new {x = y} p a) zero k h n b = let z : k < 0 = rw (eq-eqb y y refl) at b in absurd (omega arith)
+after-order (new p a) (suc i) zero h n b = (0, omega arith, refl)
+after-order {seen} (new {xs = ys} {ds = ds} {x = y} p a) (suc i) (suc k) h n b = go (eqb (getD ys i 0) y) refl b (after-order a i k (omega arith))
   where
-    go : (t : Bool) → isIn y seen ≡ t → k < placeIn y (cond t (distinctAfter seen ys) (y ∷ distinctAfter (y ∷ seen) ys)) → ⊥
-    go true e b = true≢false (sym e ∙ n)
-    go false e b = let z : k < 0 = rw (eq-eqb y y refl) at b in omega arith
-after-order seen (y ∷ ys) (suc i) k h n b =
-    go (isIn y seen) b (λ b. after-order seen ys i k (omega arith) n b) (λ k n b. after-order (y ∷ seen) ys i k (omega arith) n b)
-  where
-    x : ℕ
-    x = getD ys i 0
+    Earlier : Type 0
+    Earlier = (j : ℕ) × (j < i) × (getD ys j 0 ≡ getD ds k 0)
 
-    Before : List ℕ → ℕ → Type 0
-    Before d k = (j : ℕ) × (j < i) × (getD ys j 0 ≡ getD d k 0)
-
-    new : List ℕ
-    new = distinctAfter (y ∷ seen) ys
-
-    behind : ((k : ℕ) → isIn x (y ∷ seen) ≡ false → k < placeIn x new → Before new k) → (k : ℕ) → k < placeIn x (y ∷ new) → (j : ℕ) × (j < suc i) × (getD (y ∷ ys) j 0 ≡ getD (y ∷ new) k 0)
-    behind ih zero b = (0, omega arith, refl)
-    behind ih (suc k) b = split (eqb x y) refl b
-      where
-        split : (t : Bool) → eqb x y ≡ t → suc k < cond t 0 (suc (placeIn x new)) → (j : ℕ) × (j < suc i) × (getD (y ∷ ys) j 0 ≡ getD new k 0)
-        split true e b = absurd (omega arith)
-        split false e b = let r = ih k (rw (e, n)) (omega arith) in (suc (r .0), omega (arith, r .1), r .2)
-
-    go : (t : Bool) → k < placeIn x (cond t (distinctAfter seen ys) (y ∷ new)) → (k < placeIn x (distinctAfter seen ys) → Before (distinctAfter seen ys) k) → ((k : ℕ) → isIn x (y ∷ seen) ≡ false → k < placeIn x new → Before new k) → (j : ℕ) × (j < suc i) × (getD (y ∷ ys) j 0 ≡ getD (cond t (distinctAfter seen ys) (y ∷ new)) k 0)
-    go true b old ih = let r = old b in (suc (r .0), omega (arith, r .1), r .2)
-    go false b old ih = behind ih k b
+    go : (t : Bool) → eqb (getD ys i 0) y ≡ t → suc k < cond t 0 (suc (placeIn (getD ys i 0) ds)) → ((In (getD ys i 0) (y ∷ seen) → ⊥) → k < placeIn (getD ys i 0) ds → Earlier) → (j : ℕ) × (j < suc i) × (getD (y ∷ ys) j 0 ≡ getD ds k 0)
+    go true e b ih = absurd (omega arith)
+    go false e b ih = let r = ih (⊎-elim (eqb-false (getD ys i 0) y e) n) (omega arith) in (suc (r .0), omega (arith, r .1), r .2)
 
 pub distinct-order : (xs : List ℕ) (i k : ℕ) → i < length xs → k < placeIn (getD xs i 0) (distinct xs) → (j : ℕ) × (j < i) × (getD xs j 0 ≡ getD (distinct xs) k 0)
-distinct-order xs i k h b = after-order [] xs i k h refl b
+distinct-order xs i k h b = after-order (after [] xs) i k h (λ i. i) b
 
 pub place-at : (xs : List ℕ) (i : ℕ) → Different xs → i < length xs → placeIn (getD xs i 0) xs ≡ i
 place-at [] i d h = absurd (omega arith)

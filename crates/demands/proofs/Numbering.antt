@@ -23,68 +23,57 @@ getD-mapped f [] i d b h = absurd (omega arith)
 getD-mapped f (x ∷ xs) zero d b h = refl
 getD-mapped f (x ∷ xs) (suc i) d b h = getD-mapped f xs i d b (omega arith)
 
-pub refilled-ends : (l : List ℤ) (ks : List ℕ) → ends (refilled l ks) ≡ ends l
-refilled-ends [] ks = refl
-refilled-ends (x ∷ xs) [] = ap (λ (bs : List Bool). isEnd x ∷ bs) (refilled-ends xs [])
-refilled-ends (x ∷ xs) (k ∷ ks) = go (isEnd x) refl (refilled-ends xs (k ∷ ks)) (refilled-ends xs ks)
-  where
-    go : (b : Bool) → isEnd x ≡ b → ends (refilled xs (k ∷ ks)) ≡ ends xs → ends (refilled xs ks) ≡ ends xs → ends (cond b (x ∷ refilled xs (k ∷ ks)) (pos k ∷ refilled xs ks)) ≡ isEnd x ∷ ends xs
-    go true e kept filled = ap (λ (bs : List Bool). isEnd x ∷ bs) kept
-    go false e kept filled = rw (e, filled)
+-- how a list refilled with as many numbers as it has corners comes about
+data Filled : List ℤ → List ℕ → List ℤ → Type 0 where
+  none : Filled [] [] []
+  kept : {x : ℤ} {xs zs : List ℤ} {ks : List ℕ} → isEnd x ≡ true → Filled xs ks zs → Filled (x ∷ xs) ks (x ∷ zs)
+  filled : {x : ℤ} {k : ℕ} {xs zs : List ℤ} {ks : List ℕ} → isEnd x ≡ false → Filled xs ks zs → Filled (x ∷ xs) (k ∷ ks) (pos k ∷ zs)
 
-pub refilled-corners : (l : List ℤ) (ks : List ℕ) → length ks ≡ length (corners l) → corners (refilled l ks) ≡ map pos ks
-refilled-corners [] [] h = refl
-refilled-corners [] (k ∷ ks) h = absurd (omega arith)
-refilled-corners (x ∷ xs) [] h = go (isEnd x) h (refilled-corners xs [])
+fill : (l : List ℤ) (ks : List ℕ) → length ks ≡ length (corners l) → Filled l ks (refilled l ks)
+fill [] [] h = none
+fill [] (k ∷ ks) h = absurd (omega arith)
+fill (x ∷ xs) [] h = go (isEnd x) refl h (fill xs [])
   where
-    go : (b : Bool) → 0 ≡ length (cond b (corners xs) (x ∷ corners xs)) → (0 ≡ length (corners xs) → corners (refilled xs []) ≡ []) → cond b (corners (refilled xs [])) (x ∷ corners (refilled xs [])) ≡ []
-    go true h ih = ih h
-    go false h ih = absurd (omega arith)
-refilled-corners (x ∷ xs) (k ∷ ks) h = go (isEnd x) refl h (refilled-corners xs (k ∷ ks)) (refilled-corners xs ks)
+    go : (b : Bool) → isEnd x ≡ b → 0 ≡ length (cond b (corners xs) (x ∷ corners xs)) → {zs : List ℤ} → (0 ≡ length (corners xs) → Filled xs [] zs) → Filled (x ∷ xs) [] (x ∷ zs)
+    go true e h rest = kept e (rest h)
+    go false e h rest = absurd (omega arith)
+fill (x ∷ xs) (k ∷ ks) h = go (isEnd x) refl h (fill xs (k ∷ ks)) (fill xs ks)
   where
-    go : (b : Bool) → isEnd x ≡ b → suc (length ks) ≡ length (cond b (corners xs) (x ∷ corners xs)) → (suc (length ks) ≡ length (corners xs) → corners (refilled xs (k ∷ ks)) ≡ map pos (k ∷ ks)) → (length ks ≡ length (corners xs) → corners (refilled xs ks) ≡ map pos ks) → corners (cond b (x ∷ refilled xs (k ∷ ks)) (pos k ∷ refilled xs ks)) ≡ map pos (k ∷ ks)
-    go true e h kept filled = rw e (kept h)
-    go false e h kept filled = ap (λ (zs : List ℤ). pos k ∷ zs) (filled (omega arith))
+    go : (b : Bool) → isEnd x ≡ b → suc (length ks) ≡ length (cond b (corners xs) (x ∷ corners xs)) → {ys zs : List ℤ} → (suc (length ks) ≡ length (corners xs) → Filled xs (k ∷ ks) ys) → (length ks ≡ length (corners xs) → Filled xs ks zs) → Filled (x ∷ xs) (k ∷ ks) (cond b (x ∷ ys) (pos k ∷ zs))
+    go true e h same next = kept e (same h)
+    go false e h same next = filled e (next (omega arith))
+
+filled-ends : {l new : List ℤ} {ks : List ℕ} → Filled l ks new → ends new ≡ ends l
+filled-ends none = refl
+filled-ends (kept {x = x} e f) = ap (λ (bs : List Bool). isEnd x ∷ bs) (filled-ends f)
+filled-ends (filled e f) = rw (e, filled-ends f)
+
+filled-corners : {l new : List ℤ} {ks : List ℕ} → Filled l ks new → corners new ≡ map pos ks
+filled-corners none = refl
+filled-corners (kept e f) = rw e (filled-corners f)
+filled-corners (filled {k = k} e f) = ap (λ (zs : List ℤ). pos k ∷ zs) (filled-corners f)
 
 -- m gives each of the corners cs back from its new vertex
 abbrev Back : List ℤ → List ℤ → List ℕ → Type 0
 Back m cs ks = (i : ℕ) → i < length cs → getD m (getD ks i 0) (pos 0) ≡ getD cs i (pos 0)
 
-refilled-back : (m l : List ℤ) (ks : List ℕ) → length ks ≡ length (corners l) → Back m (corners l) ks → mapped m (refilled l ks) ≡ l
-refilled-back m [] ks h back = refl
-refilled-back m (x ∷ xs) [] h back = go (isEnd x) h back (refilled-back m xs [])
-  where
-    go : (b : Bool) → 0 ≡ length (cond b (corners xs) (x ∷ corners xs)) → Back m (cond b (corners xs) (x ∷ corners xs)) [] → (0 ≡ length (corners xs) → Back m (corners xs) [] → mapped m (refilled xs []) ≡ xs) → _≡_ {A = List ℤ} (cond b x (getD m (num x) (pos 0)) ∷ mapped m (refilled xs [])) (x ∷ xs)
-    go true h back ih = ap (λ (zs : List ℤ). x ∷ zs) (ih h back)
-    go false h back ih = absurd (omega arith)
-refilled-back m (x ∷ xs) (k ∷ ks) h back = go (isEnd x) refl h back (refilled-back m xs (k ∷ ks)) (refilled-back m xs ks)
-  where
-    go : (b : Bool) → isEnd x ≡ b → suc (length ks) ≡ length (cond b (corners xs) (x ∷ corners xs)) → Back m (cond b (corners xs) (x ∷ corners xs)) (k ∷ ks) → (suc (length ks) ≡ length (corners xs) → Back m (corners xs) (k ∷ ks) → mapped m (refilled xs (k ∷ ks)) ≡ xs) → (length ks ≡ length (corners xs) → Back m (corners xs) ks → mapped m (refilled xs ks) ≡ xs) → mapped m (cond b (x ∷ refilled xs (k ∷ ks)) (pos k ∷ refilled xs ks)) ≡ x ∷ xs
-    go true e h back kept filled = rw e (ap (λ (zs : List ℤ). x ∷ zs) (kept h back))
-    go false e h back kept filled = rw (back 0 (omega arith), filled (omega arith) (λ i b. back (suc i) (omega arith)))
+filled-back : (m : List ℤ) {l new : List ℤ} {ks : List ℕ} → Filled l ks new → Back m (corners l) ks → mapped m new ≡ l
+filled-back m none back = refl
+filled-back m (kept {x = x} {xs = xs} {ks = ks} e f) back =
+    let rest : Back m (corners xs) ks = rw e at back in
+    rw (e, filled-back m f rest)
+filled-back m (filled {x = x} {k = k} {xs = xs} {ks = ks} e f) back =
+    let all : Back m (x ∷ corners xs) (k ∷ ks) = rw e at back in
+    rw (all 0 (omega arith), filled-back m f (λ i b. all (suc i) (omega arith)))
 
-tails : {x y : ℤ} {xs ys : List ℤ} → x ∷ xs ≡ y ∷ ys → xs ≡ ys
-tails {xs} {ys} e = cc
-
-heads : {x y : ℤ} {xs ys : List ℤ} → x ∷ xs ≡ y ∷ ys → x ≡ y
-heads {x} {y} e = cc
-
-back-refilled : (m l : List ℤ) (ks : List ℕ) → length ks ≡ length (corners l) → mapped m (refilled l ks) ≡ l → Back m (corners l) ks
-back-refilled m [] ks h e = λ i b. absurd (omega arith)
-back-refilled m (x ∷ xs) [] h e = go (isEnd x) h e (back-refilled m xs [])
+back-filled : (m : List ℤ) {l new : List ℤ} {ks : List ℕ} → Filled l ks new → mapped m new ≡ l → Back m (corners l) ks
+back-filled m none e = λ i b. absurd (omega arith)
+back-filled m (kept p f) e = rw p (back-filled m f (cc))
+back-filled m (filled {x = x} {k = k} {xs = xs} {ks = ks} p f) e = rw p (at (cc) (back-filled m f (cc)))
   where
-    go : (b : Bool) → 0 ≡ length (cond b (corners xs) (x ∷ corners xs)) → _≡_ {A = List ℤ} (cond b x (getD m (num x) (pos 0)) ∷ mapped m (refilled xs [])) (x ∷ xs) → (0 ≡ length (corners xs) → mapped m (refilled xs []) ≡ xs → Back m (corners xs) []) → Back m (cond b (corners xs) (x ∷ corners xs)) []
-    go true h e ih = ih h (tails e)
-    go false h e ih = absurd (omega arith)
-back-refilled m (x ∷ xs) (k ∷ ks) h e = go (isEnd x) refl h e (back-refilled m xs (k ∷ ks)) (back-refilled m xs ks)
-  where
-    go : (b : Bool) → isEnd x ≡ b → suc (length ks) ≡ length (cond b (corners xs) (x ∷ corners xs)) → mapped m (cond b (x ∷ refilled xs (k ∷ ks)) (pos k ∷ refilled xs ks)) ≡ x ∷ xs → (suc (length ks) ≡ length (corners xs) → mapped m (refilled xs (k ∷ ks)) ≡ xs → Back m (corners xs) (k ∷ ks)) → (length ks ≡ length (corners xs) → mapped m (refilled xs ks) ≡ xs → Back m (corners xs) ks) → Back m (cond b (corners xs) (x ∷ corners xs)) (k ∷ ks)
-    go true p h e kept filled = kept h (tails e)
-    go false p h e kept filled = at
-      where
-        at : Back m (x ∷ corners xs) (k ∷ ks)
-        at zero b = heads e
-        at (suc i) b = filled (omega arith) (tails e) i (omega arith)
+    at : getD m k (pos 0) ≡ x → Back m (corners xs) ks → Back m (x ∷ corners xs) (k ∷ ks)
+    at first rest zero b = first
+    at first rest (suc i) b = rest i (omega arith)
 
 module _ (labels : List ℕ) where
   pub numbers-length : length (newNumbers labels) ≡ length labels
@@ -130,16 +119,16 @@ module _ (labels : List ℕ) where
       (x, b, number-is x b ∙ ap (λ (w : ℕ). placeIn w (distinct labels)) (place-holds z labels i) ∙ place-at (distinct labels) k (distinct-different labels) h)
 
 module _ (l : List ℤ) (labels : List ℕ) (same : length labels ≡ length (corners l)) where
-  pub new-ends : ends (newListOf l labels) ≡ ends l
-  unfolding newListOf
-  new-ends = refilled-ends l (newNumbers labels)
-
   numbers-fit : length (newNumbers labels) ≡ length (corners l)
   numbers-fit = numbers-length labels ∙ same
 
+  pub new-ends : ends (newListOf l labels) ≡ ends l
+  unfolding newListOf
+  new-ends = filled-ends (fill l (newNumbers labels) numbers-fit)
+
   new-corners : corners (newListOf l labels) ≡ map pos (newNumbers labels)
   unfolding newListOf
-  new-corners = refilled-corners l (newNumbers labels) numbers-fit
+  new-corners = filled-corners (fill l (newNumbers labels) numbers-fit)
 
   pub new-corners-length : length (corners (newListOf l labels)) ≡ length (corners l)
   new-corners-length = ap length new-corners ∙ length-map (newNumbers labels) pos ∙ numbers-fit
@@ -201,11 +190,11 @@ module _ (l : List ℤ) (labels : List ℕ) (same : length labels ≡ length (co
   -- a map gives the list back exactly when it gives each corner's entry for its new vertex
   number-back : (m : List ℤ) → Back m (corners l) (newNumbers labels) → mapped m (newListOf l labels) ≡ l
   unfolding newListOf
-  number-back m = refilled-back m l (newNumbers labels) numbers-fit
+  number-back m = filled-back m (fill l (newNumbers labels) numbers-fit)
 
   pub back-number : (m : List ℤ) → mapped m (newListOf l labels) ≡ l → (x : ℕ) → Corner l x → getD m (getD (newNumbers labels) x 0) (pos 0) ≡ getD (corners l) x (pos 0)
   unfolding newListOf
-  back-number m e = back-refilled m l (newNumbers labels) numbers-fit e
+  back-number m e = back-filled m (fill l (newNumbers labels) numbers-fit) e
 
   pub map-back : (mapped (mapOf l labels) (newListOf l labels) ≡ l) ↔ Refines
   map-back = (one-entry, gives-back)
