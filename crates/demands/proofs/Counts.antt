@@ -4,6 +4,7 @@ use mathlib.Core.Path.{_≡_, refl, sym, _∙_, ap, ap₂}
 use mathlib.Core.Bool.{Bool, true, false, cond, _&&_, false≢true}
 use mathlib.Core.List.{List, [], _∷_, map}
 use mathlib.Core.Logic.{_⊎_, inl, inr, ⊎-elim}
+use native.Mathlib.Nat.{zero-add}
 use native.Mathlib.Omega.{arith}
 use borrow.Author.Tests.{eqb-true, eq-eqb, ltb-true, ltb-false, leb-true, le-leb}
 use lib.Dec.{eqb, ltb}
@@ -20,6 +21,8 @@ use Rattle.cut.specs.Groups.{countFrom}
 use Rattle.cut.specs.Classes.{hasFace, endsEdge, fansAt, classOf, classesOf, isSingularClass, singularVertices}
 use Rattle.demands.specs.Linked.{useAt}
 use Rattle.demands.specs.Counted.{Counted, SingularEdge, SingularVertex}
+use Rattle.demands.proofs.Labels.{countFrom-length, countFrom-at}
+use Rattle.demands.proofs.Numbering.{getD-mapped}
 use Rattle.demands.proofs.Distinct.{equal-or-not, at-in}
 
 -- numbers that rise stand at one place each
@@ -86,6 +89,16 @@ module _ (l : List ℤ) (n : ℕ) where
       sym (length-map (choose (λ (v : ℕ). isSingularClass (classOf l v)) (upFrom 0 n)) (classOf l)) ∙
       ap length (sym (choose-map isSingularClass (classOf l) (upFrom 0 n))) ∙
       ap (λ (vs : List ℕ). length (choose isSingularClass (map (classOf l) vs))) (sym (row-same 0 n))
+
+  -- the classes stand in the order of the vertices
+  pub classes-length : length (classesOf l n) ≡ n
+  unfolding classesOf
+  classes-length = length-map (countFrom 0 n) (classOf l) ∙ countFrom-length 0 n
+
+  pub classes-at : (v : ℕ) → v < n → getD (classesOf l n) v 0 ≡ classOf l v
+  unfolding classesOf
+  classes-at v h =
+      getD-mapped (classOf l) (countFrom 0 n) v 0 0 (rw countFrom-length h) ∙ ap (classOf l) (countFrom-at 0 n v h ∙ zero-add v)
 
   pub singular-vertices : Counted (SingularVertex l n) (singularVertices l n)
   singular-vertices = counted-through (SingularVertex l n) (λ (v : ℕ). v) into onto (λ u v p q e. e) (rw chosen-vertices at (counted-chosen (λ (v : ℕ). isSingularClass (classOf l v)) n))

@@ -13,10 +13,12 @@ use Rattle.list.specs.Check.{Valid}
 use Rattle.list.specs.declared.CheckAnswer.{CheckAnswer}
 use Rattle.list.proofs.Given.{accepted-exactly-when, accepted-counts}
 use Rattle.list.proofs.Checking.{faces-long}
+use Rattle.edges.specs.Choose.{count}
 use Rattle.edges.specs.Uses.{Use, uses, facesOn, singularEdges}
+use Rattle.edges.proofs.Faces.{hasEdge, uses-are-faces}
 use Rattle.cut.specs.Groups.{everyEdge, groupsOfUses, groupLabels}
 use Rattle.cut.specs.Renumber.{newListOf, newVertices}
-use Rattle.cut.specs.Classes.{classOf, singularVertices}
+use Rattle.cut.specs.Classes.{classOf, classesOf, singularVertices}
 use Rattle.cut.specs.Cut.{cutAccepted}
 use Rattle.demands.specs.Joined.{Equivalence, Joined}
 use Rattle.demands.specs.Renumbered.{Corner, vertexAt, ends, mapped, FirstUse}
@@ -120,7 +122,17 @@ module _ (l : List ℤ) (n : ℕ) (accepted : Accepted l n) where
   pub counts-singular-vertices : Counted (SingularVertex l n) (cutAccepted l n .«singular_vertices»)
   counts-singular-vertices = Counts.singular-vertices l n
 
+  -- the number of faces on an edge counts faces
+  pub counts-faces-on : (a b : ℕ) → facesOn l a b ≡ count (hasEdge a b) (runs l)
+  counts-faces-on a b = uses-are-faces l n a b valid
+
   -- "the ... classes are those of document 01, each also stated in its words"
+  pub classes-length : length (classesOf l n) ≡ n
+  classes-length = Counts.classes-length l n
+
+  pub classes-at : (v : ℕ) → v < n → getD (classesOf l n) v 0 ≡ classOf l v
+  classes-at = Counts.classes-at l n
+
   module _ (v : ℕ) where
     -- 0 standalone (no face)
     pub class-0 : (classOf l v ≡ 0) ↔ Standalone l v

@@ -39,6 +39,13 @@ module _ {A : Type 0} where
   in-cases x (z ∷ zs) ys (inl e) = inl (inl e)
   in-cases x (z ∷ zs) ys (inr i) = ⊎-elim (λ j. inl (inr j)) (λ j. inr j) (in-cases x zs ys i)
 
+-- the two links of uses that start on one vertex, and of uses that don't
+abbrev straight : Use → Use → List Link
+straight u v = record { one = u .corner; two = v .corner } ∷ record { one = u .next; two = v .next } ∷ []
+
+abbrev crosswise : Use → Use → List Link
+crosswise u v = record { one = u .corner; two = v .next } ∷ record { one = u .next; two = v .corner } ∷ []
+
 module _ (J : Use → Bool) (us : List Use) (k : Link) where
   -- the links of the i-th of the uses vs
   abbrev linksNth : List Use → ℕ → List Link
@@ -122,7 +129,7 @@ module _ (J : Use → Bool) (l : List ℤ) (ok : Cornered l) where
         twos : {j : Link} → k ≡ j → k .two ≡ j .two
         twos p = ap (λ (k : Link). k .two) p
 
-        go : (b : Bool) → eqb (useAt l e .from) (useAt l f .from) ≡ b → In k (cond b (record { one = useAt l e .corner; two = useAt l f .corner } ∷ record { one = useAt l e .next; two = useAt l f .next } ∷ []) (record { one = useAt l e .corner; two = useAt l f .next } ∷ record { one = useAt l e .next; two = useAt l f .corner } ∷ [])) → Met (Crossing J l) (k .one) (k .two)
+        go : (b : Bool) → eqb (useAt l e .from) (useAt l f .from) ≡ b → In k (cond b (straight (useAt l e) (useAt l f)) (crosswise (useAt l e) (useAt l f))) → Met (Crossing J l) (k .one) (k .two)
         go true q (inl p) =
             let v = from-same (eqb-true (useAt l e .from) (useAt l f .from) q) in
             (starts, starts, meets chosen earlier (k .one) (k .two) starts starts (ones p ∙ e-is) (twos p ∙ f-is) v)

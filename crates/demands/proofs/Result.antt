@@ -84,74 +84,68 @@ module _ (J : Use → Bool) (l : List ℤ) (n : ℕ) (v : Valid l n) where
       let two : facesOn l (useAt l e .from) (useAt l e .to) ≡ 2 = rw is-e at (a .two-faces) in
       omega arith
 
-  -- the use that starts at e runs between the new vertices a and b: its end on a, by its side
-  abbrev On : ℕ → ℕ → ℕ → Type 0
-  On a b e = (s : Side) × (vertexAt result (cornerBy l e s) ≡ a) × (vertexAt result (cornerBy l e (opposite s)) ≡ b)
+  -- the use that starts at corner e runs between the new vertices a and b: by its side its end on a
+  record On (a b e : ℕ) : Type 0 where
+    corner : Corner l e
+    side : Side
+    on-a : vertexAt result (cornerBy l e side) ≡ a
+    on-b : vertexAt result (cornerBy l e (opposite side)) ≡ b
 
-  on-edge-by : (a b e : ℕ) → Corner l e → onEdge a b (useAt result e) ≡ true → On a b e
-  on-edge-by a b e h o = go (edge-vertices result e (omega (arith, result-corners)) a b o)
-    where
-      go : ((vertexAt result e ≡ a) × (vertexAt result (next result e) ≡ b)) ⊎ ((vertexAt result e ≡ b) × (vertexAt result (next result e) ≡ a)) → On a b e
-      go (inl p) = (starts, p .0, ap (vertexAt result) (sym (result-next e)) ∙ p .1)
-      go (inr p) = (stops, ap (vertexAt result) (sym (result-next e)) ∙ p .1, p .0)
+  sharing-on : (a b e : ℕ) → In e (sharing result a b) → On a b e
+  sharing-on a b e i =
+      let r = in-sharing result a b e i in
+      let h : Corner l e = omega (arith, r .0, uses-long result, result-corners) in
+      let stop : vertexAt result (next l e) ≡ vertexAt result (next result e) = ap (vertexAt result) (sym (result-next e)) in
+      ⊎-elim
+      (λ p. record { corner = h; side = starts; on-a = p .0; on-b = stop ∙ p .1 })
+      (λ p. record { corner = h; side = stops; on-a = stop ∙ p .1; on-b = p .0 })
+      (edge-vertices result e (omega (arith, result-corners)) a b (r .1))
 
-  -- two uses of one new edge
-  module _ (a b e f : ℕ) (e-below : Corner l e) (f-below : Corner l f) (on-e : On a b e) (on-f : On a b f) where
-    abbrev s : Side
-    s = on-e .0
+  -- two uses of one new edge: their ends on each of its vertices are joined, so in the input they are uses of one edge too
+  module _ {a b e f : ℕ} (o : On a b e) (q : On a b f) where
+    by-joined : (s t : Side) → vertexAt result (cornerBy l e s) ≡ vertexAt result (cornerBy l f t) → Joined (Met (Crossing J l)) (cornerBy l e s) (cornerBy l f t)
+    by-joined s t = new-joined (cornerBy l e s) (cornerBy l f t) (cornerBy-below l cornered e s (o .corner)) (cornerBy-below l cornered f t (q .corner))
 
-    abbrev t : Side
-    t = on-f .0
+    ends-joined : Joined (Met (Crossing J l)) (cornerBy l e (o .side)) (cornerBy l f (q .side))
+    ends-joined = by-joined (o .side) (q .side) (o .on-a ∙ sym (q .on-a))
 
-    ends-joined : Joined (Met (Crossing J l)) (cornerBy l e s) (cornerBy l f t)
-    ends-joined = new-joined (cornerBy l e s) (cornerBy l f t) (cornerBy-below l cornered e s e-below) (cornerBy-below l cornered f t f-below) (on-e .1 ∙ sym (on-f .1))
-
-    others-joined : Joined (Met (Crossing J l)) (cornerBy l e (opposite s)) (cornerBy l f (opposite t))
-    others-joined = new-joined (cornerBy l e (opposite s)) (cornerBy l f (opposite t)) (cornerBy-below l cornered e (opposite s) e-below) (cornerBy-below l cornered f (opposite t) f-below) (on-e .2 ∙ sym (on-f .2))
+    others-vertex : vertexAt l (cornerBy l e (opposite (o .side))) ≡ vertexAt l (cornerBy l f (opposite (q .side)))
+    others-vertex = joined-vertex (by-joined (opposite (o .side)) (opposite (q .side)) (o .on-b ∙ sym (q .on-b)))
 
     old-ends : Ends l e f
-    old-ends = sides-ends l e f s t (joined-vertex ends-joined) (joined-vertex others-joined)
+    old-ends = sides-ends l e f (o .side) (q .side) (joined-vertex ends-joined) others-vertex
 
-    two-ends : (e ≡ f → ⊥) → cornerBy l e s ≡ cornerBy l f t → ⊥
-    two-ends e≢f p = e≢f (corner-once l cornered e f s t e-below f-below p (joined-vertex others-joined))
+    ends-differ : (e ≡ f → ⊥) → cornerBy l e (o .side) ≡ cornerBy l f (q .side) → ⊥
+    ends-differ e≢f p = e≢f (corner-once l cornered e f (o .side) (q .side) (o .corner) (q .corner) p others-vertex)
 
-  three-uses : (a b e f g : ℕ) → e < f → f < g → Corner l g → On a b e → On a b f → On a b g → ⊥
-  three-uses a b e f g e<f f<g g-below on-e on-f on-g =
+  -- of three uses of one new edge each has a free side there
+  end-free : {a b e f g : ℕ} (o : On a b e) → On a b f → On a b g → (e ≡ f → ⊥) → (e ≡ g → ⊥) → (f ≡ g → ⊥) → Free (Crossing J l) (cornerBy l e (o .side)) (o .side)
+  end-free {a} {b} {e} {f} {g} o q r e≢f e≢g f≢g =
+      crowded e (o .side) (o .corner)
+      (three-faces l cornered e f g (o .corner) (q .corner) (r .corner) (old-ends q o) (old-ends r o) e≢f e≢g f≢g)
+
+  three-uses : {a b e f g : ℕ} → On a b e → On a b f → On a b g → e < f → f < g → ⊥
+  three-uses o q r e<f f<g =
       three-free (crossing-meets J l cornered)
-      (crowded e (on-e .0) e-below (three-faces l cornered e f g e-below f-below g-below (old-ends a b f e f-below e-below on-f on-e) (old-ends a b g e g-below e-below on-g on-e) (omega arith) (omega arith) (omega arith)))
-      (crowded f (on-f .0) f-below (three-faces l cornered f e g f-below e-below g-below (old-ends a b e f e-below f-below on-e on-f) (old-ends a b g f g-below f-below on-g on-f) (omega arith) (omega arith) (omega arith)))
-      (crowded g (on-g .0) g-below (three-faces l cornered g e f g-below e-below f-below (old-ends a b e g e-below g-below on-e on-g) (old-ends a b f g f-below g-below on-f on-g) (omega arith) (omega arith) (omega arith)))
-      (ends-joined a b e f e-below f-below on-e on-f)
-      (ends-joined a b e g e-below g-below on-e on-g)
-      (two-ends a b f e f-below e-below on-f on-e (omega arith))
-      (two-ends a b g e g-below e-below on-g on-e (omega arith))
-      (two-ends a b g f g-below f-below on-g on-f (omega arith))
-    where
-      e-below : Corner l e
-      e-below = omega arith
-
-      f-below : Corner l f
-      f-below = omega arith
+      (end-free o q r (omega arith) (omega arith) (omega arith))
+      (end-free q o r (omega arith) (omega arith) (omega arith))
+      (end-free r o q (omega arith) (omega arith) (omega arith))
+      (ends-joined o q)
+      (ends-joined o r)
+      (ends-differ q o (omega arith))
+      (ends-differ r o (omega arith))
+      (ends-differ r q (omega arith))
 
   -- each edge of the result has at most two faces
   pub result-edges : (a b : ℕ) → facesOn result a b ≤ 2
-  result-edges a b = rw (sharing-faces result a b) at (go (sharing result a b) (sharing-rises result a b) each)
+  result-edges a b = rw (sharing-faces result a b) at (go (sharing result a b) (sharing-rises result a b) (sharing-on a b))
     where
-      each : (e : ℕ) → In e (sharing result a b) → Corner l e × On a b e
-      each e i =
-          let r = in-sharing result a b e i in
-          let h : Corner l e = omega (arith, r .0, uses-long result, result-corners) in
-          (h, on-edge-by a b e h (r .1))
-
-      go : (xs : List ℕ) → Rising 0 xs → ((e : ℕ) → In e xs → Corner l e × On a b e) → length xs ≤ 2
-      go [] r each = omega arith
-      go (e ∷ []) r each = omega arith
-      go (e ∷ f ∷ []) r each = omega arith
-      go (e ∷ f ∷ g ∷ xs) r each =
-          let at-e = each e (inl refl) in
-          let at-f = each f (inr (inl refl)) in
-          let at-g = each g (inr (inr (inl refl))) in
-          absurd (three-uses a b e f g (omega arith) (omega arith) (at-g .0) (at-e .1) (at-f .1) (at-g .1))
+      go : (xs : List ℕ) → Rising 0 xs → ((e : ℕ) → In e xs → On a b e) → length xs ≤ 2
+      go [] r on = omega arith
+      go (e ∷ []) r on = omega arith
+      go (e ∷ f ∷ []) r on = omega arith
+      go (e ∷ f ∷ g ∷ xs) r on =
+          absurd (three-uses (on e (inl refl)) (on f (inr (inl refl))) (on g (inr (inr (inl refl)))) (omega arith) (omega arith))
 
   pub result-one-or-two : (a b : ℕ) → 0 < facesOn result a b → (facesOn result a b ≡ 1) ⊎ (facesOn result a b ≡ 2)
   result-one-or-two a b h =
