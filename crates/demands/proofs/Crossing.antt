@@ -1,6 +1,7 @@
 -- Corners that meet across an edge with two faces, for any choice J of such edges: a side of a corner meets at most one side, and is
 -- met by it.
 --
+--   vertexBy l e s      the vertex of the corner by whose side s the use that starts at e runs
 --   Ends l e f          the uses that start at the corners e and f have the same two vertices, whichever way they run
 --   Crossing J l        corners meet across an edge with two faces that J chooses, asked of the earlier of its uses
 use Prim.Native.Nat.{ℕ, _≤_, min, max}
@@ -31,6 +32,9 @@ pair-ends a b c d p q = go (equal-or-not a c)
     go : (a ≡ c) ⊎ (a ≡ c → ⊥) → ((a ≡ c) × (b ≡ d)) ⊎ ((a ≡ d) × (b ≡ c))
     go (inl e) = inl (e, omega arith)
     go (inr n) = inr (omega arith, omega arith)
+
+abbrev pub vertexBy : List ℤ → ℕ → Side → ℕ
+vertexBy l e s = vertexAt l (cornerBy l e s)
 
 abbrev pub Ends : List ℤ → ℕ → ℕ → Type 0
 Ends l e f = ((vertexAt l e ≡ vertexAt l f) × (vertexAt l (next l e) ≡ vertexAt l (next l f))) ⊎ ((vertexAt l e ≡ vertexAt l (next l f)) × (vertexAt l (next l e) ≡ vertexAt l f))
@@ -70,7 +74,7 @@ ends-back l e f (inl p) = inl (sym (p .0), sym (p .1))
 ends-back l e f (inr p) = inr (sym (p .1), sym (p .0))
 
 -- uses whose ends by the sides s and t lie on one vertex, and whose other ends do too, have the same two vertices
-pub sides-ends : (l : List ℤ) (e f : ℕ) (s t : Side) → vertexAt l (cornerBy l e s) ≡ vertexAt l (cornerBy l f t) → vertexAt l (cornerBy l e (opposite s)) ≡ vertexAt l (cornerBy l f (opposite t)) → Ends l e f
+pub sides-ends : (l : List ℤ) (e f : ℕ) (s t : Side) → vertexBy l e s ≡ vertexBy l f t → vertexBy l e (opposite s) ≡ vertexBy l f (opposite t) → Ends l e f
 sides-ends l e f starts starts p q = inl (p, q)
 sides-ends l e f starts stops p q = inr (p, q)
 sides-ends l e f stops starts p q = inr (q, p)
@@ -82,7 +86,7 @@ module _ (l : List ℤ) (ok : Cornered l) where
   cornerBy-below e stops h = ok .next-inside e h
 
   -- the other ends too lie on one vertex
-  pub ends-sides : (e f : ℕ) (s t : Side) → Corner l f → Ends l e f → vertexAt l (cornerBy l e s) ≡ vertexAt l (cornerBy l f t) → vertexAt l (cornerBy l e (opposite s)) ≡ vertexAt l (cornerBy l f (opposite t))
+  pub ends-sides : (e f : ℕ) (s t : Side) → Corner l f → Ends l e f → vertexBy l e s ≡ vertexBy l f t → vertexBy l e (opposite s) ≡ vertexBy l f (opposite t)
   ends-sides e f starts starts h (inl p) q = p .1
   ends-sides e f starts starts h (inr p) q = absurd (ok .ends-differ f h (sym q ∙ p .0))
   ends-sides e f starts stops h (inl p) q = absurd (ok .ends-differ f h (sym (p .0) ∙ q))
@@ -98,14 +102,14 @@ module _ (l : List ℤ) (ok : Cornered l) where
   side-once e f stops h k p = ok .next-once e f h k p
 
   -- and the edges by a corner's two sides lead to different vertices
-  pub corner-once : (e f : ℕ) (s t : Side) → Corner l e → Corner l f → cornerBy l e s ≡ cornerBy l f t → vertexAt l (cornerBy l e (opposite s)) ≡ vertexAt l (cornerBy l f (opposite t)) → e ≡ f
+  pub corner-once : (e f : ℕ) (s t : Side) → Corner l e → Corner l f → cornerBy l e s ≡ cornerBy l f t → vertexBy l e (opposite s) ≡ vertexBy l f (opposite t) → e ≡ f
   corner-once e f starts starts h k p q = side-once e f starts h k p
   corner-once e f starts stops h k p q = absurd (ok .neighbours-differ f k (sym q ∙ ap (λ (x : ℕ). vertexAt l (next l x)) p))
   corner-once e f stops starts h k p q = absurd (ok .neighbours-differ e h (q ∙ ap (λ (x : ℕ). vertexAt l (next l x)) (sym p)))
   corner-once e f stops stops h k p q = side-once e f stops h k p
 
   -- a use's two ends lie on different vertices
-  pub end-once : (f : ℕ) (s t : Side) → Corner l f → vertexAt l (cornerBy l f s) ≡ vertexAt l (cornerBy l f t) → s ≡ t
+  pub end-once : (f : ℕ) (s t : Side) → Corner l f → vertexBy l f s ≡ vertexBy l f t → s ≡ t
   end-once f starts starts h p = refl
   end-once f starts stops h p = absurd (ok .ends-differ f h p)
   end-once f stops starts h p = absurd (ok .ends-differ f h (sym p))
@@ -179,6 +183,6 @@ crossing-meets J l ok = record {
         let g-ends : Ends l g e = subst (λ (k : ℕ). Ends l g k) same-one (same-ends l (b .one) g (b .one-below) (b .two-below) (b .same-edge)) in
         let f-ends : Ends l f e = same-ends l e f (a .one-below) (a .two-below) (a .same-edge) in
         let same-two : f ≡ g = two-only l ok e f g (a .one-below) (a .two-below) (b .two-below) (a .two-faces) f-ends g-ends (a .differ) (λ p. b .differ (same-one ∙ p)) in
-        let vertex : vertexAt l (cornerBy l f t) ≡ vertexAt l (cornerBy l f u) = ap (vertexAt l) (sym (a .y-is)) ∙ sym (a .same-vertex) ∙ b .same-vertex ∙ ap (vertexAt l) (b .y-is ∙ ap (λ (k : ℕ). cornerBy l k u) (sym same-two)) in
+        let vertex : vertexBy l f t ≡ vertexBy l f u = ap (vertexAt l) (sym (a .y-is)) ∙ sym (a .same-vertex) ∙ b .same-vertex ∙ ap (vertexAt l) (b .y-is ∙ ap (λ (k : ℕ). cornerBy l k u) (sym same-two)) in
         let side : t ≡ u = end-once l ok f t u (a .two-below) vertex in
         (a .y-is ∙ ap (cornerBy l f) side ∙ ap (λ (k : ℕ). cornerBy l k u) same-two ∙ sym (b .y-is), side)

@@ -22,7 +22,7 @@ use Rattle.demands.proofs.Equivalence.{joined-equal}
 use Rattle.demands.proofs.Walk.{Met}
 use Rattle.demands.proofs.Labels.{Linking, Below, label-joined, joined-label}
 use Rattle.demands.proofs.Corners.{next, Cornered}
-use Rattle.demands.proofs.Crossing.{Ends, use-from, same-ends, ends-back, ends-sides, two-only, cornerBy-below, Crossing, across-back}
+use Rattle.demands.proofs.Crossing.{vertexBy, Ends, use-from, same-ends, ends-back, ends-sides, two-only, cornerBy-below, Crossing, across-back}
 
 module _ {A : Type 0} where
   pub in-left : (x : A) (xs ys : List A) → In x xs → In x (xs ++ ys)
@@ -90,7 +90,7 @@ module _ (J : Use → Bool) (l : List ℤ) (ok : Cornered l) where
     ends : Ends l e f
     ends = ends-back l f e (same-ends l e f e-below f-below (regular .same-edge))
 
-    meets : J (useAt l e) ≡ true → e < f → (x y : ℕ) (s t : Side) → x ≡ cornerBy l e s → y ≡ cornerBy l f t → vertexAt l (cornerBy l e s) ≡ vertexAt l (cornerBy l f t) → Crossing J l x s y t
+    meets : J (useAt l e) ≡ true → e < f → (x y : ℕ) (s t : Side) → x ≡ cornerBy l e s → y ≡ cornerBy l f t → vertexBy l e s ≡ vertexBy l f t → Crossing J l x s y t
     meets chosen earlier x y s t x-is y-is p = record {
       across = record {
         one = e;
@@ -158,7 +158,7 @@ module _ (J : Use → Bool) (l : List ℤ) (ok : Cornered l) where
       (omega (arith, a .x-is, cornerBy-below l ok (a .one) s (a .one-below)), omega (arith, a .y-is, cornerBy-below l ok (a .two) t (a .two-below)))
 
   -- the link for the ends of e and f by their sides s and t
-  link-by : (e f : ℕ) (s t : Side) → Corner l e → Corner l f → Ends l e f → vertexAt l (cornerBy l e s) ≡ vertexAt l (cornerBy l f t) → (k : Link) × In k (linksOf (useAt l e) (useAt l f)) × (cornerBy l e s ≡ k .one) × (cornerBy l f t ≡ k .two)
+  link-by : (e f : ℕ) (s t : Side) → Corner l e → Corner l f → Ends l e f → vertexBy l e s ≡ vertexBy l f t → (k : Link) × In k (linksOf (useAt l e) (useAt l f)) × (cornerBy l e s ≡ k .one) × (cornerBy l f t ≡ k .two)
   link-by e f s t e-below f-below ends = go s t
     where
       e-is : e ≡ useAt l e .corner
@@ -175,7 +175,7 @@ module _ (J : Use → Bool) (l : List ℤ) (ok : Cornered l) where
           ne-eqb (useAt l e .from) (useAt l f .from)
           (λ q. ok .ends-differ f f-below (sym (use-from l f f-below) ∙ sym q ∙ use-from l e e-below ∙ p))
 
-      go : (s t : Side) → vertexAt l (cornerBy l e s) ≡ vertexAt l (cornerBy l f t) → (k : Link) × In k (linksOf (useAt l e) (useAt l f)) × (cornerBy l e s ≡ k .one) × (cornerBy l f t ≡ k .two)
+      go : (s t : Side) → vertexBy l e s ≡ vertexBy l f t → (k : Link) × In k (linksOf (useAt l e) (useAt l f)) × (cornerBy l e s ≡ k .one) × (cornerBy l f t ≡ k .two)
       go starts starts p = rw (from-same p) (record { one = useAt l e .corner; two = useAt l f .corner }, inl refl, e-is, f-is)
       go starts stops p = rw (from-not p) (record { one = useAt l e .corner; two = useAt l f .next }, inl refl, e-is, refl)
       go stops starts p = rw (from-not (ends-sides l ok e f stops starts f-below ends p)) (record { one = useAt l e .next; two = useAt l f .corner }, inr (inl refl), refl, f-is)

@@ -25,7 +25,7 @@ use Rattle.demands.proofs.Labels.{labels-length}
 use Rattle.demands.proofs.Distinct.{equal-or-not, two-in}
 use Rattle.demands.proofs.Numbering.{new-ends, new-corners-length, new-vertex, same-number, same-label, Refines}
 use Rattle.demands.proofs.Corners.{next, Cornered, valid-cornered, corner-entry}
-use Rattle.demands.proofs.Crossing.{Ends, edge-vertices, same-ends, ends-same, ends-back, sides-ends, cornerBy-below, ends-sides, side-once, corner-once, three-faces, Crossing, crossing-meets}
+use Rattle.demands.proofs.Crossing.{vertexBy, Ends, edge-vertices, same-ends, ends-same, ends-back, sides-ends, cornerBy-below, ends-sides, side-once, corner-once, three-faces, Crossing, crossing-meets}
 use Rattle.demands.proofs.Links.{crossing-below, group-joined, joined-group}
 use Rattle.demands.proofs.Shape.{same-next, new-valid}
 
@@ -109,7 +109,7 @@ module _ (J : Use → Bool) (l : List ℤ) (n : ℕ) (v : Valid l n) where
     ends-joined : Joined (Met (Crossing J l)) (cornerBy l e (o .side)) (cornerBy l f (q .side))
     ends-joined = by-joined (o .side) (q .side) (o .on-a ∙ sym (q .on-a))
 
-    others-vertex : vertexAt l (cornerBy l e (opposite (o .side))) ≡ vertexAt l (cornerBy l f (opposite (q .side)))
+    others-vertex : vertexBy l e (opposite (o .side)) ≡ vertexBy l f (opposite (q .side))
     others-vertex = joined-vertex (by-joined (opposite (o .side)) (opposite (q .side)) (o .on-b ∙ sym (q .on-b)))
 
     old-ends : Ends l e f
@@ -188,8 +188,8 @@ module _ (J : Use → Bool) (l : List ℤ) (n : ℕ) (v : Valid l n) where
       let f-below : Corner result f = rw result-corners (c .across .two-below) in
       let x-is : x ≡ cornerBy result e s = c .across .x-is ∙ sym (result-cornerBy e s) in
       let y-is : y ≡ cornerBy result f t = c .across .y-is ∙ sym (result-cornerBy f t) in
-      let here : vertexAt result (cornerBy result f t) ≡ vertexAt result (cornerBy result e s) = ap (vertexAt result) (sym y-is) ∙ sym (crossing-new c) ∙ ap (vertexAt result) x-is in
-      let there : vertexAt result (cornerBy result f (opposite t)) ≡ vertexAt result (cornerBy result e (opposite s)) = ap (vertexAt result) (result-cornerBy f (opposite t)) ∙ sym (crossing-new (crossing-opposite c)) ∙ ap (vertexAt result) (sym (result-cornerBy e (opposite s))) in
+      let here : vertexBy result f t ≡ vertexBy result e s = ap (vertexAt result) (sym y-is) ∙ sym (crossing-new c) ∙ ap (vertexAt result) x-is in
+      let there : vertexBy result f (opposite t) ≡ vertexBy result e (opposite s) = ap (vertexAt result) (result-cornerBy f (opposite t)) ∙ sym (crossing-new (crossing-opposite c)) ∙ ap (vertexAt result) (sym (result-cornerBy e (opposite s))) in
       let on : onEdge (useAt result e .from) (useAt result e .to) (useAt result f) ≡ true = ends-same result e f e-below f-below (sides-ends result f e t s here there) in
       let a = useAt result e .from in
       let b = useAt result e .to in
