@@ -1,10 +1,10 @@
 -- Labellings of the corners that a cut could make (the order, demand 3: fewest labels).
 --
---   labelAt labels x        the label of corner x
+--   labelAt labels x          the label of corner x
 --   LinkedWithin l labels k   links across edges with two faces, between corners of label k
---   Labelling l labels      each corner has a label, and any two corners of one label lie on one vertex and are linked, through corners
---                           of that label, across edges at that vertex with exactly two faces
---   labelCount labels       the number of different labels
+--   Labelling l labels        each corner has a label, and any two corners of one label lie on one vertex and are linked, through
+--                             corners of that label, across edges at that vertex with exactly two faces
+--   labelCount labels         the number of different labels
 use Prim.Native.Nat.{ℕ}
 use mathlib.Core.Path.{_≡_}
 use mathlib.Core.List.{List}
