@@ -1,4 +1,6 @@
 pub mod Bench
+pub mod Determined
+pub mod Refusals
 pub mod Equivalence
 pub mod Walk
 pub mod Labels

@@ -5,3 +5,4 @@ pub mod Labelling
 pub mod Classed
 pub mod Counted
 pub mod Cutting
+pub mod Refused
