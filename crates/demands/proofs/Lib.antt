@@ -1,6 +1,7 @@
 pub mod Bench
 pub mod Determined
 pub mod Refusals
+pub mod RuledOut
 pub mod Equivalence
 pub mod Walk
 pub mod Labels

@@ -6,3 +6,4 @@ pub mod Classed
 pub mod Counted
 pub mod Cutting
 pub mod Refused
+pub mod Wrong
