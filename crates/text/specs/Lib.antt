@@ -1,0 +1,4 @@
+pub mod Codes
+pub mod Bytes
+pub mod Numbers
+pub mod Steps
