@@ -52,10 +52,6 @@ module _ (bs : List ℕ) (i : ℕ) where
   pub digits-none : length bs ≤ i → clipped (magnitudeOf (drop i bs)) ≡ Broken
   digits-none h = rw (drop-of-length-le bs h)
 
-pub and-left : (a b : Bool) → (a && b) ≡ true → a ≡ true
-and-left true b e = refl
-and-left false b e = e
-
 pub empty-nil : (bs : List ℕ) → length bs ≡ 0 → bs ≡ []
 empty-nil [] e = refl
 empty-nil (b ∷ bs) e = absurd (omega arith)

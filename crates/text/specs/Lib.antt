@@ -1,4 +1,6 @@
 pub mod Codes
 pub mod Bytes
 pub mod Numbers
+pub mod Tokens
+pub mod Reading
 pub mod Steps

@@ -13,7 +13,7 @@ ghost use Rattle.text.specs.Bytes.{isDigit, zeroByte};
 ghost use Rattle.text.specs.Numbers.{numberBytes, isMinus, unsigned, magnitudeOf, greatest, signed, numberAt};
 ghost use Rattle.text.specs.Steps.{beyond, clipped};
 
-const NOT_OF_THE_FORM: u32 = 11;
+pub const NOT_OF_THE_FORM: u32 = 11;
 
 const OUT_OF_RANGE: u32 = 12;
 

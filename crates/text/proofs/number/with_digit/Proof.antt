@@ -3,7 +3,7 @@ use native.Mathlib.Omega.{arith}
 use borrow.Author.Tests.{leb-true}
 use lib.Dec.{leb}
 use Rattle.text.specs.Bytes.{zeroByte}
-use Rattle.text.proofs.Decimals.{and-left}
+use Rattle.text.proofs.Bools.{and-left}
 use borrow.Author.Needs.{needs}
 use Rattle.text.proofs.number.with_digit.Statement.{statement}
 use Rattle.text.proofs.number.with_digit.Tie as tie
