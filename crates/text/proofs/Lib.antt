@@ -7,3 +7,6 @@ pub mod Lexing
 pub mod Items
 pub mod Filling
 pub mod Whole
+pub mod Putting
+pub mod Entries
+pub mod Writes

@@ -3,4 +3,5 @@ pub mod Bytes
 pub mod Numbers
 pub mod Tokens
 pub mod Reading
+pub mod Writing
 pub mod Steps

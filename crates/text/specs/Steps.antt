@@ -4,11 +4,12 @@
 --   clipped o      the digits' value as the number reader keeps it
 --   blank c s      how many bytes of separators and comments s begins with; c says whether s starts in a comment
 --   itemOf e ks    the first of the things ks inside the brackets, in a text of length e
+--   put at vs t    the bytes vs at place at of t, and what stood in front of them and behind them
 use Prim.Native.Nat.{ℕ, suc, _+_, min}
-use mathlib.Core.List.{List, [], _∷_}
+use mathlib.Core.List.{List, [], _∷_, _++_}
 use mathlib.Core.Bool.{Bool, true, false, cond}
 use mathlib.Core.Option.{Option, none, some}
-use lib.ListN.{length}
+use lib.ListN.{length, take, drop}
 use Rattle.text.specs.Bytes.{inComment, inGap}
 use Rattle.text.specs.Codes.{notOfTheForm}
 use Rattle.text.specs.Numbers.{numberOf, codeOf, placeOf}
@@ -40,3 +41,6 @@ itemOf e [] = Fault notOfTheForm e
 itemOf e (opening p ∷ ks) = Fault notOfTheForm p
 itemOf e (closing p ∷ ks) = Closed (suc p)
 itemOf e (number p bs ∷ ks) = itemOfNumber p (numberOf p (p + length bs) bs)
+
+abbrev pub put : ℕ → List ℕ → List ℕ → List ℕ
+put at vs t = take at t ++ (vs ++ drop (at + length vs) t)
