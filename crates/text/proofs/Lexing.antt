@@ -183,16 +183,23 @@ push-run p b (d ∷ s) = go (inNumber d) refl (push-run (suc p) d s)
         rw (e, w .gap, w .comment, w .no-open, w .no-close, h, eq-eqb (suc p) (suc p) refl, add-suc p (suc (length (numberBytes s))), suc-add p (suc (length (numberBytes s))))
     go false e h = push-ends p b d s e ∙ rw (e, add-one p)
 
--- a number at place q: its bytes, and then what stands behind them
+-- a number in front of a text: its bytes, and then what stands behind them
+pub number-run : (p b : ℕ) (s : List ℕ) → inNumber b ≡ true
+    → tokens p false (b ∷ s) ≡ number p (b ∷ numberBytes s) ∷ tokens (p + suc (length (numberBytes s))) false (drop (length (numberBytes s)) s)
+number-run p b s e =
+    let w = plain b e in
+    rw (w .gap, w .comment, w .no-open, w .no-close) (push-run p b s)
+
+-- the same at place q of a text
 pub number-tokens : (t : List ℕ) (q : ℕ) → q < length t → inNumber (getD t q 0) ≡ true
     → tokensAt t q ≡ number q (numberBytes (drop q t)) ∷ tokensAt t (q + length (numberBytes (drop q t)))
 number-tokens t q h e =
-    let w = plain (getD t q 0) e in
     let b = getD t q 0 in
     let s = drop (suc q) t in
     let n = length (numberBytes s) in
     let k : suc q + n ≡ q + suc n = omega arith in
     let d : drop n s ≡ drop (q + suc n) t = drop-drop n (suc q) t ∙ ap (λ (j : ℕ). drop j t) k in
+    let w = plain b e in
     rw (drop-cons t q 0 h, e, w .gap, w .comment, w .no-open, w .no-close)
     (push-run q b s ∙ ap (λ (r : List ℕ). number q (b ∷ numberBytes s) ∷ tokens (q + suc n) false r) d)
 

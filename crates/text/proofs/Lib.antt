@@ -10,3 +10,4 @@ pub mod Whole
 pub mod Putting
 pub mod Entries
 pub mod Writes
+pub mod RoundTrip

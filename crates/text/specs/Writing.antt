@@ -13,18 +13,21 @@
 --   acceptedWrite n    the answer that accepts, with a text of n bytes
 --   writeOf l n        the answer to the list l and a text buffer of n bytes
 --   writeInto l t      the text buffer afterwards: the text in front of what stays, or all as it was
+--   Fits32 x           the entry x is from -2,147,483,648 to 2,147,483,647
+--   AllFit l           so is every entry of l
 use mathlib.Core.Path.{_≡_, refl, ap, sym, _∙_}
 use Prim.Native.Nat.{ℕ, zero, suc, _+_, _/_, _%_, _≤_, _<_}
 use native.Mathlib.Omega.{arith}
 use mathlib.Core.List.{List, [], _∷_, _++_}
 use mathlib.Core.Bool.{Bool, true, false, cond}
 use lib.IntN.{ℤ, pos, negsuc, natAbs}
-use lib.ListN.{length, drop}
+use lib.ListN.{length, drop, getD}
 use lib.Dec.{eqb, ltb}
 use borrow.Author.Tests.{lt-ltb, le-ltb, ltb-true, ltb-false}
 use Rattle.list.specs.Limits.{maxEntries}
 use Rattle.text.specs.Codes.{tooLong, noRoom}
 use Rattle.text.specs.Bytes.{openByte, closeByte, minusByte, zeroByte}
+use Rattle.text.specs.Numbers.{greatest}
 use Rattle.text.specs.declared.WriteAnswer.{WriteAnswer}
 
 -- f bounds how many digits are looked for
@@ -120,3 +123,10 @@ writeOf l n =
 unfoldable pub writeInto : List ℤ → List ℕ → List ℕ
 unfolding writeOf
 writeInto l t = cond (eqb (writeOf l (length t) .code) 0) (written l ++ drop (length (written l)) t) t
+
+abbrev pub Fits32 : ℤ → Type 0
+Fits32 (pos m) = m ≤ greatest false
+Fits32 (negsuc m) = suc m ≤ greatest true
+
+abbrev pub AllFit : List ℤ → Type 0
+AllFit l = (i : ℕ) → i < length l → Fits32 (getD l i (pos 0))
