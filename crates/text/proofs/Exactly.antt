@@ -9,22 +9,21 @@
 --   needed-exact        the length needed is exact: with it the writer accepts, with less it refuses
 use mathlib.Core.Path.{_≡_, refl, ap, sym, _∙_}
 use mathlib.Core.Logic.{_↔_}
-use Prim.Native.Nat.{ℕ, zero, suc, _+_, _≤_, _<_}
+use Prim.Native.Nat.{ℕ, suc, _+_, _≤_, _<_}
 use native.Mathlib.Nat.{add-zero, add-suc, suc-add, zero-add}
 use native.Mathlib.Omega.{arith}
 use native.Mathlib.Decide.{decLt, decLe}
 use mathlib.Core.List.{List, [], _∷_, _++_, append-nil}
-use mathlib.Core.Bool.{Bool, true, false, cond}
+use mathlib.Core.Bool.{false}
 use mathlib.Core.Option.{Option, none, some}
 use lib.IntN.{ℤ}
 use lib.ListN.{length}
-use lib.Dec.{ltb, leb}
-use borrow.Author.Tests.{lt-ltb, le-ltb, le-leb, lt-leb, ltb-true, ltb-false, leb-true, leb-false}
+use borrow.Author.Tests.{lt-ltb, le-ltb, le-leb, lt-leb}
 use Rattle.list.specs.Limits.{maxEntries}
 use Rattle.text.specs.Codes.{tooLong, notOfTheForm, outOfRange, tooMany, noRoom}
 use Rattle.text.specs.Numbers.{numberOf, magnitudeOf, unsigned, isMinus, signed, greatest}
 use Rattle.text.specs.Tokens.{Token, opening, closing, number, startOf, tokens}
-use Rattle.text.specs.Reading.{refused, accepted, roomOf, behind, inside, opened, readOf}
+use Rattle.text.specs.Reading.{refused, accepted, roomOf, inside, opened, readOf}
 use Rattle.text.specs.Faults.{HasForm, NoForm, InRange, OutOfRange, Fine, none-left, one-more, Eleven, no-bracket, closed-first, number-first, never-closed, opened-twice, bad-number, second-thing, Twelve, too-large, Thirteen, no-room, Whole, of-the-form}
 use Rattle.text.specs.Writing.{written, refusedWrite, acceptedWrite, writeOf}
 use Rattle.text.specs.declared.number.Number.the-variants.{Value, Refused}

@@ -1,18 +1,16 @@
 -- What stands at a place of a text, as the reader finds it by looking at one byte, and what that says of the things of the text.
-use mathlib.Core.Path.{_≡_, refl, ap, sym, subst, _∙_}
-use mathlib.Core.Logic.{⊎-elim}
-use Prim.Native.Nat.{ℕ, zero, suc, _+_, _≤_, _<_}
-use native.Mathlib.Nat.{le-refl}
+use mathlib.Core.Path.{_≡_, refl, ap, sym, _∙_}
+use Prim.Native.Nat.{ℕ, suc, _+_, _≤_, _<_}
 use native.Mathlib.Decide.{decLt, ℕ-discrete}
 use native.Mathlib.Omega.{arith}
 use mathlib.Core.List.{List, [], _∷_}
 use mathlib.Core.Bool.{Bool, true, false, cond}
 use mathlib.Core.Option.{Option, none, some}
 use lib.IntN.{ℤ}
-use lib.Dec.{eqb, ltb, leb}
+use lib.Dec.{ltb, leb}
 use lib.ListN.{length, drop, getD}
 use lib.Seq.{drop-cons}
-use borrow.Author.Tests.{ne-eqb, eq-eqb, lt-ltb, le-ltb}
+use borrow.Author.Tests.{ne-eqb, eq-eqb}
 use Rattle.text.specs.Bytes.{openByte, closeByte, inNumber}
 use Rattle.text.specs.Codes.{notOfTheForm, outOfRange, tooMany}
 use Rattle.text.specs.Numbers.{numberBytes, numberOf, numberAt, codeOf, placeOf, magnitudeOf, unsigned, isMinus, signed, greatest, ofMagnitude}
@@ -22,7 +20,6 @@ use Rattle.text.specs.Steps.{blank, itemOf, itemOfNumber}
 use Rattle.text.specs.declared.number.Number.{Number}
 use Rattle.text.specs.declared.number.Number.the-variants.{Value, Refused}
 use Rattle.text.specs.declared.ReadAnswer.{ReadAnswer}
-use Rattle.text.specs.declared.reader.Item.{Item}
 use Rattle.text.specs.declared.reader.Item.the-variants.{Entry, Closed, Fault}
 use Rattle.text.proofs.Runs.{run-within}
 use Rattle.text.proofs.Lexing.{skip-tokens, skip-end, skip-byte, skip-token, in-number, number-tokens}

@@ -12,3 +12,4 @@ pub mod Entries
 pub mod Writes
 pub mod RoundTrip
 pub mod Exactly
+pub mod Examples

@@ -1,7 +1,6 @@
 -- A whole text: what the opening bracket decides, and that an accepted text gives as many entries as it counts.
-use mathlib.Core.Path.{_≡_, refl, ap, sym, subst, _∙_}
-use Prim.Native.Nat.{ℕ, zero, suc, _+_, _≤_, _<_}
-use native.Mathlib.Nat.{zero-add, add-zero}
+use mathlib.Core.Path.{_≡_, refl, ap, _∙_}
+use Prim.Native.Nat.{ℕ, suc, _+_, _≤_, _<_}
 use native.Mathlib.Numerals.{add-one}
 use native.Mathlib.Omega.{arith}
 use mathlib.Core.List.{List, [], _∷_}
@@ -9,7 +8,7 @@ use mathlib.Core.Bool.{Bool, true, false, cond, _&&_}
 use mathlib.Core.Option.{Option, none, some}
 use lib.IntN.{ℤ}
 use lib.Dec.{eqb, ltb, leb}
-use lib.ListN.{length, take, drop, getD}
+use lib.ListN.{length, take, getD}
 use lib.Seq.{take-all}
 use borrow.Author.Tests.{ltb-true, ltb-false, eqb-true, eqb-false, eq-eqb, ne-eqb}
 use native.Mathlib.Decide.{ℕ-discrete}
@@ -18,7 +17,7 @@ use Rattle.text.specs.Bytes.{openByte, closeByte}
 use Rattle.text.specs.Codes.{notOfTheForm, outOfRange, tooMany}
 use Rattle.text.specs.Numbers.{numberOf, magnitudeOf, unsigned, isMinus, signed, greatest, ofMagnitude}
 use Rattle.text.specs.Tokens.{Token, opening, closing, number, tokens, tokensAt}
-use Rattle.text.specs.Reading.{refused, accepted, roomOf, behind, counted, inside, opened, readOf, valuesOf, valueThen, entriesOf, over, readInto}
+use Rattle.text.specs.Reading.{refused, roomOf, behind, counted, inside, opened, readOf, valuesOf, valueThen, over, readInto}
 use Rattle.text.specs.Steps.{blank}
 use Rattle.text.specs.declared.number.Number.{Number}
 use Rattle.text.specs.declared.number.Number.the-variants.{Value, Refused}

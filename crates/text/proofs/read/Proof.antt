@@ -1,5 +1,5 @@
 -- `text::read` meets its contract: the pass that looks gives the answer, and the pass that fills writes only where that accepts.
-use mathlib.Core.Path.{_≡_, sym, ap, _∙_}
+use mathlib.Core.Path.{_≡_, sym, _∙_}
 use Prim.Native.Nat.{_≤_}
 use mathlib.Core.Bool.{true, _&&_}
 use native.Mathlib.Omega.{arith}
@@ -7,8 +7,7 @@ use lib.Dec.{eqb, ltb}
 use lib.ListN.{length, getD}
 use borrow.Author.Tests.{not-true, not-false, ltb-true}
 use Rattle.text.specs.Bytes.{openByte}
-use Rattle.text.specs.Reading.{readOf, inside}
-use Rattle.text.specs.Tokens.{tokensAt}
+use Rattle.text.specs.Reading.{readOf}
 use Rattle.text.proofs.Bools.{and-left}
 use Rattle.text.proofs.Whole.{whole-unopened, read-inside, read-entries, read-fits, into-refused, refused-not}
 use borrow.Author.Needs.{needs}
