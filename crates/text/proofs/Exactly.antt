@@ -3,11 +3,12 @@
 --   eleven-exactly      11: the text is not of the form, at its leftmost fault
 --   twelve-exactly      12: a number out of range, at its first byte
 --   thirteen-exactly    13: more numbers than there is room for, at the first byte of the first one too many
+--   verdict             every text is accepted or refused by one of the three
 --   accepted-exactly    0: the text is of the form, and its numbers are in range and have room
 --   one-exactly         1: more entries than a list may have
 --   fifteen-exactly     15: the buffer is shorter than the text, and the place is the text's length
 --   needed-exact        the length needed is exact: with it the writer accepts, with less it refuses
-use mathlib.Core.Path.{_≡_, refl, ap, sym, _∙_}
+use mathlib.Core.Path.{_≡_, refl, ap, sym, subst, _∙_}
 use mathlib.Core.Logic.{_↔_}
 use Prim.Native.Nat.{ℕ, suc, _+_, _≤_, _<_}
 use native.Mathlib.Nat.{add-zero, add-suc, suc-add, zero-add}
@@ -162,106 +163,6 @@ split-answers e m front rest f h s =
     ∙ ap (λ (j : ℕ). inside e m j rest) (zero-add (length front))
     ∙ stop-answers e m (length front) rest s
 
--- a whole text whose first thing is the opening bracket
-record Opened (m : ℕ) (ks : List Token) : Type 0 where
-  front : List Token
-  rest : List Token
-  fine : Fine front
-  room : length front ≤ m
-  shape : ks ≡ front ++ rest
-  stop : Stop m (length front) rest
-
-unclosed : (m : ℕ) (ks : List Token) → Opened m ks
-unclosed m ks =
-    let s = split m 0 ks (omega arith) in
-    record {
-      front = s .front;
-      rest = s .rest;
-      fine = s .fine;
-      room = omega (arith, s .room);
-      shape = s .shape;
-      stop = rw (zero-add (length (s .front))) at (s .stop);
-    }
-
-opened-answers : (e m q : ℕ) (ks : List Token) (o : Opened m ks) → opened e m (opening q ∷ ks) ≡ answerAt e m (length (o .front)) (o .rest) (o .stop)
-opened-answers e m q ks o = ap (inside e m 0) (o .shape) ∙ split-answers e m (o .front) (o .rest) (o .fine) (o .room) (o .stop)
-
--- ---- from the answer to the fault
-
-module _ (e m q : ℕ) (ks front rest : List Token) (f : Fine front) (h : length front ≤ m) (shape : ks ≡ front ++ rest) where
-  -- the things of the text, with what stands where the numbers stop
-  behind-front : (r : List Token) → rest ≡ r → opening q ∷ ks ≡ opening q ∷ (front ++ r)
-  behind-front r s = ap (λ (x : List Token). opening q ∷ x) (shape ∙ ap (λ (x : List Token). front ++ x) s)
-
-  eleven-at : (p : ℕ) (s : Stop m (length front) rest) → answerAt e m (length front) rest s ≡ refused notOfTheForm p → Eleven e m (opening q ∷ ks) p
-  eleven-at p (ends s) a =
-      never-closed q front f h (behind-front [] s ∙ ap (λ (x : List Token). opening q ∷ x) (append-nil front)) (sym (ap place a))
-  eleven-at p (reopens j r s) a = opened-twice q front r f h (behind-front (opening p ∷ r) (s ∙ ap (λ (i : ℕ). opening i ∷ r) (ap place a)))
-  eleven-at p (closes c s) a = absurd (omega (arith, ap code a))
-  eleven-at p (trails c k r s) a = second-thing q front c k r f h (behind-front (closing c ∷ k ∷ r) s) (sym (ap place a))
-  eleven-at p (breaks j bs r b s) a = bad-number q front bs r f h b (behind-front (number p bs ∷ r) (s ∙ ap (λ (i : ℕ). number i bs ∷ r) (ap place a)))
-  eleven-at p (exceeds j bs r b s) a = absurd (omega (arith, ap code a))
-  eleven-at p (crowds j bs r b n s) a = absurd (omega (arith, ap code a))
-
-  twelve-at : (p : ℕ) (s : Stop m (length front) rest) → answerAt e m (length front) rest s ≡ refused outOfRange p → Twelve m (opening q ∷ ks) p
-  twelve-at p (ends s) a = absurd (omega (arith, ap code a))
-  twelve-at p (reopens j r s) a = absurd (omega (arith, ap code a))
-  twelve-at p (closes c s) a = absurd (omega (arith, ap code a))
-  twelve-at p (trails c k r s) a = absurd (omega (arith, ap code a))
-  twelve-at p (breaks j bs r b s) a = absurd (omega (arith, ap code a))
-  twelve-at p (exceeds j bs r b s) a = too-large q front bs r f h b (behind-front (number p bs ∷ r) (s ∙ ap (λ (i : ℕ). number i bs ∷ r) (ap place a)))
-  twelve-at p (crowds j bs r b n s) a = absurd (omega (arith, ap code a))
-
-  thirteen-at : (p : ℕ) (s : Stop m (length front) rest) → answerAt e m (length front) rest s ≡ refused tooMany p → Thirteen m (opening q ∷ ks) p
-  thirteen-at p (ends s) a = absurd (omega (arith, ap code a))
-  thirteen-at p (reopens j r s) a = absurd (omega (arith, ap code a))
-  thirteen-at p (closes c s) a = absurd (omega (arith, ap code a))
-  thirteen-at p (trails c k r s) a = absurd (omega (arith, ap code a))
-  thirteen-at p (breaks j bs r b s) a = absurd (omega (arith, ap code a))
-  thirteen-at p (exceeds j bs r b s) a = absurd (omega (arith, ap code a))
-  thirteen-at p (crowds j bs r b n s) a = no-room q front bs r f n b (behind-front (number p bs ∷ r) (s ∙ ap (λ (i : ℕ). number i bs ∷ r) (ap place a)))
-
-  whole-at : (n : ℕ) (s : Stop m (length front) rest) → answerAt e m (length front) rest s ≡ accepted n → Whole m (opening q ∷ ks) n
-  whole-at n (ends s) a = absurd (omega (arith, ap code a))
-  whole-at n (reopens j r s) a = absurd (omega (arith, ap code a))
-  whole-at n (closes c s) a = of-the-form q front c f h (behind-front (closing c ∷ []) s) (sym (ap entries a))
-  whole-at n (trails c k r s) a = absurd (omega (arith, ap code a))
-  whole-at n (breaks j bs r b s) a = absurd (omega (arith, ap code a))
-  whole-at n (exceeds j bs r b s) a = absurd (omega (arith, ap code a))
-  whole-at n (crowds j bs r b k s) a = absurd (omega (arith, ap code a))
-
-eleven-only : (e m : ℕ) (ks : List Token) (p : ℕ) → opened e m ks ≡ refused notOfTheForm p → Eleven e m ks p
-eleven-only e m [] p a = no-bracket refl (sym (ap place a))
-eleven-only e m (closing q ∷ r) p a = closed-first r (ap (λ (i : ℕ). closing i ∷ r) (ap place a))
-eleven-only e m (number q bs ∷ r) p a = number-first bs r (ap (λ (i : ℕ). number i bs ∷ r) (ap place a))
-eleven-only e m (opening q ∷ ks) p a =
-    let o = unclosed m ks in
-    eleven-at e m q ks (o .front) (o .rest) (o .fine) (o .room) (o .shape) p (o .stop) (sym (opened-answers e m q ks o) ∙ a)
-
-twelve-only : (e m : ℕ) (ks : List Token) (p : ℕ) → opened e m ks ≡ refused outOfRange p → Twelve m ks p
-twelve-only e m [] p a = absurd (omega (arith, ap code a))
-twelve-only e m (closing q ∷ r) p a = absurd (omega (arith, ap code a))
-twelve-only e m (number q bs ∷ r) p a = absurd (omega (arith, ap code a))
-twelve-only e m (opening q ∷ ks) p a =
-    let o = unclosed m ks in
-    twelve-at e m q ks (o .front) (o .rest) (o .fine) (o .room) (o .shape) p (o .stop) (sym (opened-answers e m q ks o) ∙ a)
-
-thirteen-only : (e m : ℕ) (ks : List Token) (p : ℕ) → opened e m ks ≡ refused tooMany p → Thirteen m ks p
-thirteen-only e m [] p a = absurd (omega (arith, ap code a))
-thirteen-only e m (closing q ∷ r) p a = absurd (omega (arith, ap code a))
-thirteen-only e m (number q bs ∷ r) p a = absurd (omega (arith, ap code a))
-thirteen-only e m (opening q ∷ ks) p a =
-    let o = unclosed m ks in
-    thirteen-at e m q ks (o .front) (o .rest) (o .fine) (o .room) (o .shape) p (o .stop) (sym (opened-answers e m q ks o) ∙ a)
-
-whole-only : (e m : ℕ) (ks : List Token) (n : ℕ) → opened e m ks ≡ accepted n → Whole m ks n
-whole-only e m [] n a = absurd (omega (arith, ap code a))
-whole-only e m (closing q ∷ r) n a = absurd (omega (arith, ap code a))
-whole-only e m (number q bs ∷ r) n a = absurd (omega (arith, ap code a))
-whole-only e m (opening q ∷ ks) n a =
-    let o = unclosed m ks in
-    whole-at e m q ks (o .front) (o .rest) (o .fine) (o .room) (o .shape) n (o .stop) (sym (opened-answers e m q ks o) ∙ a)
-
 -- ---- from the fault to the answer
 
 module _ (e m : ℕ) (ks : List Token) where
@@ -288,6 +189,76 @@ module _ (e m : ℕ) (ks : List Token) where
   whole-given : (n : ℕ) → Whole m ks n → opened e m ks ≡ accepted n
   whole-given n (of-the-form q front c f h s k) =
       ap (opened e m) s ∙ split-answers e m front (closing c ∷ []) f h (closes c refl) ∙ ap accepted (sym k)
+
+-- ---- every text is accepted or refused by one of the three
+
+pub data Verdict (e m : ℕ) (ks : List Token) : Type 0 where
+  by-eleven : (p : ℕ) → Eleven e m ks p → Verdict e m ks
+  by-twelve : (p : ℕ) → Twelve m ks p → Verdict e m ks
+  by-thirteen : (p : ℕ) → Thirteen m ks p → Verdict e m ks
+  by-none : (n : ℕ) → Whole m ks n → Verdict e m ks
+
+module _ (e m q : ℕ) (ks front rest : List Token) (f : Fine front) (h : length front ≤ m) (shape : ks ≡ front ++ rest) where
+  -- the things of the text, with what stands where the numbers stop
+  behind-front : (r : List Token) → rest ≡ r → opening q ∷ ks ≡ opening q ∷ (front ++ r)
+  behind-front r s = ap (λ (x : List Token). opening q ∷ x) (shape ∙ ap (λ (x : List Token). front ++ x) s)
+
+  stop-verdict : Stop m (length front) rest → Verdict e m (opening q ∷ ks)
+  stop-verdict (ends s) =
+      by-eleven e (never-closed q front f h (behind-front [] s ∙ ap (λ (x : List Token). opening q ∷ x) (append-nil front)) refl)
+  stop-verdict (reopens p r s) = by-eleven p (opened-twice q front r f h (behind-front (opening p ∷ r) s))
+  stop-verdict (closes c s) = by-none (length front) (of-the-form q front c f h (behind-front (closing c ∷ []) s) refl)
+  stop-verdict (trails c k r s) = by-eleven (startOf k) (second-thing q front c k r f h (behind-front (closing c ∷ k ∷ r) s) refl)
+  stop-verdict (breaks p bs r b s) = by-eleven p (bad-number q front bs r f h b (behind-front (number p bs ∷ r) s))
+  stop-verdict (exceeds p bs r b s) = by-twelve p (too-large q front bs r f h b (behind-front (number p bs ∷ r) s))
+  stop-verdict (crowds p bs r b n s) = by-thirteen p (no-room q front bs r f n b (behind-front (number p bs ∷ r) s))
+
+pub verdict : (e m : ℕ) (ks : List Token) → Verdict e m ks
+verdict e m [] = by-eleven e (no-bracket refl refl)
+verdict e m (closing p ∷ r) = by-eleven p (closed-first r refl)
+verdict e m (number p bs ∷ r) = by-eleven p (number-first bs r refl)
+verdict e m (opening q ∷ ks) =
+    let s = split m 0 ks (omega arith) in
+    stop-verdict e m q ks (s .front) (s .rest) (s .fine) (omega (arith, s .room)) (s .shape) (rw (zero-add (length (s .front))) at (s .stop))
+
+-- ---- from the answer to the fault: the verdict is that one, since the others have another code
+
+module _ (e m : ℕ) (ks : List Token) where
+  eleven-only : (p : ℕ) → opened e m ks ≡ refused notOfTheForm p → Eleven e m ks p
+  eleven-only p a = go (verdict e m ks)
+    where
+      go : Verdict e m ks → Eleven e m ks p
+      go (by-eleven q x) = subst (Eleven e m ks) (ap place (sym (eleven-given e m ks q x) ∙ a)) x
+      go (by-twelve q x) = absurd (omega (arith, ap code (sym (twelve-given e m ks q x) ∙ a)))
+      go (by-thirteen q x) = absurd (omega (arith, ap code (sym (thirteen-given e m ks q x) ∙ a)))
+      go (by-none n x) = absurd (omega (arith, ap code (sym (whole-given e m ks n x) ∙ a)))
+
+  twelve-only : (p : ℕ) → opened e m ks ≡ refused outOfRange p → Twelve m ks p
+  twelve-only p a = go (verdict e m ks)
+    where
+      go : Verdict e m ks → Twelve m ks p
+      go (by-eleven q x) = absurd (omega (arith, ap code (sym (eleven-given e m ks q x) ∙ a)))
+      go (by-twelve q x) = subst (Twelve m ks) (ap place (sym (twelve-given e m ks q x) ∙ a)) x
+      go (by-thirteen q x) = absurd (omega (arith, ap code (sym (thirteen-given e m ks q x) ∙ a)))
+      go (by-none n x) = absurd (omega (arith, ap code (sym (whole-given e m ks n x) ∙ a)))
+
+  thirteen-only : (p : ℕ) → opened e m ks ≡ refused tooMany p → Thirteen m ks p
+  thirteen-only p a = go (verdict e m ks)
+    where
+      go : Verdict e m ks → Thirteen m ks p
+      go (by-eleven q x) = absurd (omega (arith, ap code (sym (eleven-given e m ks q x) ∙ a)))
+      go (by-twelve q x) = absurd (omega (arith, ap code (sym (twelve-given e m ks q x) ∙ a)))
+      go (by-thirteen q x) = subst (Thirteen m ks) (ap place (sym (thirteen-given e m ks q x) ∙ a)) x
+      go (by-none n x) = absurd (omega (arith, ap code (sym (whole-given e m ks n x) ∙ a)))
+
+  whole-only : (n : ℕ) → opened e m ks ≡ accepted n → Whole m ks n
+  whole-only n a = go (verdict e m ks)
+    where
+      go : Verdict e m ks → Whole m ks n
+      go (by-eleven q x) = absurd (omega (arith, ap code (sym (eleven-given e m ks q x) ∙ a)))
+      go (by-twelve q x) = absurd (omega (arith, ap code (sym (twelve-given e m ks q x) ∙ a)))
+      go (by-thirteen q x) = absurd (omega (arith, ap code (sym (thirteen-given e m ks q x) ∙ a)))
+      go (by-none k x) = subst (Whole m ks) (ap entries (sym (whole-given e m ks k x) ∙ a)) x
 
 -- ---- the theorems
 

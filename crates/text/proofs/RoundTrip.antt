@@ -26,7 +26,7 @@ use Rattle.text.specs.Reading.{accepted, roomOf, inside, readOf, valuesO
 use Rattle.text.specs.Writing.{width, width-one, width-more, decimalText, entryText, joint, entriesText, written, Fits32, AllFit}
 use Rattle.text.specs.declared.number.Number.the-variants.{Value}
 use Rattle.text.specs.declared.ReadAnswer.{ReadAnswer}
-use Rattle.text.proofs.Bools.{and-left, and-right}
+use Rattle.text.proofs.Bools.{clash, and-left, and-right}
 use Rattle.text.proofs.Putting.{digits-length}
 use Rattle.text.proofs.Lexing.{number-run}
 
@@ -46,7 +46,7 @@ decimal-more a m d (b ∷ bs) e h = go (isDigit b) e (λ k. decimal-more (a * 10
         → (decimal (a * 10 + (b - zeroByte)) bs ≡ some m → decimal (a * 10 + (b - zeroByte)) (bs ++ (zeroByte + d) ∷ []) ≡ some (m * 10 + d))
         → cond y (decimal (a * 10 + (b - zeroByte)) (bs ++ (zeroByte + d) ∷ [])) none ≡ some (m * 10 + d)
     go true k f = f k
-    go false k f = let z : _≡_ {A = ℕ} 0 1 = cc in absurd (omega arith)
+    go false k f = clash (cc)
 
 -- the shortest decimal of a number has its value
 decimal-small : (n : ℕ) → n < 10 → decimal 0 (decimalText n) ≡ some n
@@ -82,7 +82,7 @@ first-digit a m b bs e = go (isDigit b) refl e
   where
     go : (y : Bool) → isDigit b ≡ y → cond y (decimal (a * 10 + (b - zeroByte)) bs) none ≡ some m → isDigit b ≡ true
     go true k f = k
-    go false k f = let z : _≡_ {A = ℕ} 0 1 = cc in absurd (omega arith)
+    go false k f = clash (cc)
 
 rest-decimal : (a m b : ℕ) (bs : List ℕ) → decimal a (b ∷ bs) ≡ some m → decimal (a * 10 + (b - zeroByte)) bs ≡ some m
 rest-decimal a m b bs e = rw (first-digit a m b bs e) at e
@@ -138,7 +138,7 @@ width-grows a m (b ∷ bs) e =
 
 -- one or more digits of value m are at least as many as the writer puts
 pub shortest : (m : ℕ) (bs : List ℕ) → magnitudeOf bs ≡ some m → length (decimalText m) ≤ length bs
-shortest m [] e = let z : _≡_ {A = ℕ} 0 1 = cc in absurd (omega arith)
+shortest m [] e = clash (cc)
 shortest m (b ∷ bs) e =
     let d = digit-small b (first-digit 0 m b bs e) in
     omega (arith, digits-length (width m) m, width-one (0 * 10 + (b - zeroByte)) (omega arith), width-grows (0 * 10 + (b - zeroByte)) m bs (rest-decimal 0 m b bs e))
@@ -168,7 +168,7 @@ run-token p (b ∷ bs) r h e = go (inNumber b) refl e
     go true k f =
         let w : numberBytes (bs ++ r) ≡ bs = cc in
         number-run p b (bs ++ r) k ∙ rw (w, drop-append-seam bs r)
-    go false k f = let z : _≡_ {A = ℕ} 0 1 = cc in absurd (omega arith)
+    go false k f = clash (cc)
 
 entry-some : (x : ℤ) → 0 < length (entryText x)
 entry-some (pos m) = width-some m

@@ -12,7 +12,7 @@ use lib.ListN.{length, take, getD}
 use lib.Seq.{take-all}
 use borrow.Author.Tests.{ltb-true, ltb-false, eqb-true, eqb-false, eq-eqb, ne-eqb}
 use native.Mathlib.Decide.{ℕ-discrete}
-use Rattle.text.proofs.Bools.{and-left, and-right}
+use Rattle.text.proofs.Bools.{clash, and-left, and-right}
 use Rattle.text.specs.Bytes.{openByte, closeByte}
 use Rattle.text.specs.Codes.{notOfTheForm, outOfRange, tooMany}
 use Rattle.text.specs.Numbers.{numberOf, magnitudeOf, unsigned, isMinus, signed, greatest, ofMagnitude}
@@ -30,7 +30,7 @@ pub refused-code : (p e : ℕ) (bs : List ℕ) (c q : ℕ) → numberOf p e bs �
 refused-code p e bs c q h = byMagnitude (magnitudeOf (unsigned bs)) h
   where
     byRange : (m : ℕ) (r : Bool) → cond r (Value (signed (isMinus bs) m) e) (Refused outOfRange p) ≡ Refused c q → 0 < c
-    byRange m true k = let z : _≡_ {A = ℕ} 0 1 = cc in absurd (omega arith)
+    byRange m true k = clash (cc)
     byRange m false k = let z : outOfRange ≡ c = cc in omega arith
 
     byMagnitude : (o : Option ℕ) → ofMagnitude p e (isMinus bs) o ≡ Refused c q → 0 < c
