@@ -11,6 +11,9 @@ use Rattle.list.proofs.vertex_at.Reads as vertex-at
 use Rattle.list.proofs.check.Reads as check
 use Rattle.list.proofs.face_span.Reads as face-span
 use Rattle.list.proofs.face.Reads as face
+use Rattle.text.proofs.read.Reads as read
+use Rattle.text.proofs.write.Reads as write
+use Rattle.text.proofs.number.read_number.Reads as read-number
 
 coincide : {A : Type 0} {x y z : A} → x ≡ z → y ≡ z → x ≡ y
 coincide p q = p ∙ sym q
@@ -39,3 +42,13 @@ face-span-determined κs a r₁ r₂ s₁ s₂ p q = coincide p q
 
 pub face-determined : (κs : Lfts 1) (a : _) (r₁ r₂ : _) (s₁ s₂ : _) → face.Learnt κs a r₁ s₁ → face.Learnt κs a r₂ s₂ → now r₁ ≡ now r₂
 face-determined κs a r₁ r₂ s₁ s₂ p q = coincide p q
+
+-- text
+pub read-number-determined : (κs : Lfts 1) (a : _) (r₁ r₂ : _) (s₁ s₂ : _) → read-number.Learnt κs a r₁ s₁ → read-number.Learnt κs a r₂ s₂ → r₁ ≡ r₂
+read-number-determined κs a r₁ r₂ s₁ s₂ p q = coincide p q
+
+pub read-determined : (κs : Lfts 2) (a : _) (r₁ r₂ : _) (s₁ s₂ : _) → read.Learnt κs a r₁ s₁ → read.Learnt κs a r₂ s₂ → (r₁ ≡ r₂) × (now (s₁ .1 .0) ≡ now (s₂ .1 .0))
+read-determined κs a r₁ r₂ s₁ s₂ p q = (coincide (p .0) (q .0), coincide (p .1) (q .1))
+
+pub write-determined : (κs : Lfts 2) (a : _) (r₁ r₂ : _) (s₁ s₂ : _) → write.Learnt κs a r₁ s₁ → write.Learnt κs a r₂ s₂ → (r₁ ≡ r₂) × (now (s₁ .1 .0) ≡ now (s₂ .1 .0))
+write-determined κs a r₁ r₂ s₁ s₂ p q = (coincide (p .0) (q .0), coincide (p .1) (q .1))
