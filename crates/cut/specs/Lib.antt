@@ -2,3 +2,4 @@ pub mod Groups
 pub mod Renumber
 pub mod Classes
 pub mod Cut
+pub mod Forest

@@ -1,0 +1,61 @@
+-- How the work buffer holds groups: one word of parent for each corner, in the block that starts at p.
+--
+--   at w i             the word at i
+--   link x y           the link between the corners x and y
+--   Forest w p labels  the parents in w are those of groups with these labels: a parent is in its child's group and not after
+--                      it, and a corner that is its own parent is its group's label
+--   Climbs w p x r     r is reached from x by going from child to parent, and is its own parent where no parent is after its child
+--   Regrouped w w' p g the block at p of w has become that of w', and groups of labels have become those of g of the labels
+--   TableWords w c     the work of c corners: four blocks, and each next corner is a corner
+--   linksAtCorner      the links across the edge that starts at a corner, from the words of the edge table
+--   tableLinks w c     the links of the edge table in w
+use Prim.Native.Nat.{ℕ, zero, suc, _+_, _*_, _≤_, _<_}
+use mathlib.Core.Path.{_≡_}
+use mathlib.Core.List.{List, [], _∷_, _++_}
+use mathlib.Core.Bool.{Bool, true, false, cond, _&&_}
+use lib.Dec.{ltb, eqb}
+use lib.ListN.{length, getD, take}
+use Rattle.cut.specs.Groups.{Link}
+
+abbrev pub at : List ℕ → ℕ → ℕ
+at w i = getD w i 0
+
+abbrev pub link : ℕ → ℕ → Link
+link x y = record { one = x; two = y }
+
+pub record Forest (w : List ℕ) (p : ℕ) (labels : List ℕ) : Type 0 where
+  pub long : length w ≡ p + length labels
+  pub down : (i : ℕ) → i < length labels → at w (p + i) ≤ i
+  pub same : (i : ℕ) → i < length labels → at labels (at w (p + i)) ≡ at labels i
+  pub root : (i : ℕ) → i < length labels → at w (p + i) ≡ i → at labels i ≡ i
+
+pub record Climbs (w : List ℕ) (p x r : ℕ) : Type 0 where
+  pub below : r ≤ x
+  pub stops : r ≤ at w (p + r)
+  pub along : (f : ℕ → ℕ) → ((i : ℕ) → p + i < length w → f (at w (p + i)) ≡ f i) → f r ≡ f x
+
+pub record Regrouped (w w′ : List ℕ) (p : ℕ) (g : List ℕ → List ℕ) : Type 0 where
+  pub front : take p w′ ≡ take p w
+  pub groups : (labels : List ℕ) → Forest w p labels → Forest w′ p (g labels)
+
+pub record TableWords (w : List ℕ) (c : ℕ) : Type 0 where
+  pub long : length w ≡ 4 * c
+  pub nexts : (e : ℕ) → e < c → at w e < c
+
+-- the corners e and m start the two uses of an edge
+abbrev pub linksAcross : List ℕ → ℕ → ℕ → ℕ → List Link
+linksAcross w c e m =
+    cond (eqb (at w (c + e)) (at w (c + m)))
+    (link e m ∷ link (at w e) (at w m) ∷ [])
+    (link e (at w m) ∷ link (at w e) m ∷ [])
+
+abbrev pub linksAtCorner : List ℕ → ℕ → ℕ → List Link
+linksAtCorner w c e = cond (ltb e (at w (2 * c + e)) && ltb (at w (2 * c + e)) c) (linksAcross w c e (at w (2 * c + e))) []
+
+-- the links at n corners from e on
+abbrev pub linksFromCorner : List ℕ → ℕ → ℕ → ℕ → List Link
+linksFromCorner w c e zero = []
+linksFromCorner w c e (suc n) = linksAtCorner w c e ++ linksFromCorner w c (suc e) n
+
+unfoldable pub tableLinks : List ℕ → ℕ → List Link
+tableLinks w c = linksFromCorner w c 0 c
