@@ -3,8 +3,8 @@ use Prim.Native.Nat.{ℕ, zero, suc, _+_, _-_, _≤_, _<_}
 use mathlib.Core.Path.{_≡_, refl, sym, _∙_, ap}
 use mathlib.Core.List.{List, [], _∷_, map}
 use native.Mathlib.Omega.{arith}
-use lib.ListN.{length, take}
-use lib.Seq.{getD-take}
+use lib.ListN.{length, take, drop}
+use lib.Seq.{getD-take, getD-drop}
 use Rattle.cut.specs.Groups.{countFrom}
 use Rattle.cut.specs.Forest.{at}
 
@@ -28,3 +28,8 @@ count-down c e h = omega arith
 
 pub word-kept : (w w′ : List ℕ) (p i : ℕ) → take p w′ ≡ take p w → i < p → at w′ i ≡ at w i
 word-kept w w′ p i e h = sym (getD-take p w′ i 0 h) ∙ ap (λ (x : List ℕ). at x i) e ∙ getD-take p w i 0 h
+
+pub word-after : (w w′ : List ℕ) (p i : ℕ) → drop p w′ ≡ drop p w → p ≤ i → at w′ i ≡ at w i
+word-after w w′ p i e h =
+    let z : i ≡ p + (i - p) = omega arith in
+    rw z (sym (getD-drop p w′ (i - p) 0) ∙ ap (λ (x : List ℕ). at x (i - p)) e ∙ getD-drop p w (i - p) 0)

@@ -7,6 +7,7 @@
 --   Climbs w p x r     r is reached from x by going from child to parent, and is its own parent where no parent is after its child
 --   Regrouped w w' p g the block at p of w has become that of w', and groups of labels have become those of g of the labels
 --   TableWords w c     the work of c corners: four blocks, and each next corner is a corner
+--   Renumbered         the new list, the map before and after it is written, and the new vertices, for these labels
 --   linksAtCorner      the links across the edge that starts at a corner, from the words of the edge table
 --   tableLinks w c     the links of the edge table in w
 use Prim.Native.Nat.{ℕ, zero, suc, _+_, _*_, _≤_, _<_}
@@ -14,8 +15,11 @@ use mathlib.Core.Path.{_≡_}
 use mathlib.Core.List.{List, [], _∷_, _++_}
 use mathlib.Core.Bool.{Bool, true, false, cond, _&&_}
 use lib.Dec.{ltb, eqb}
+use lib.IntN.{ℤ}
 use lib.ListN.{length, getD, take}
 use Rattle.cut.specs.Groups.{Link}
+use Rattle.cut.specs.Renumber.{newListOf, newVertices, mapOf}
+use Rattle.cut.specs.Cut.{over}
 
 abbrev pub at : List ℕ → ℕ → ℕ
 at w i = getD w i 0
@@ -41,6 +45,11 @@ pub record Regrouped (w w′ : List ℕ) (p : ℕ) (g : List ℕ → List ℕ) :
 pub record TableWords (w : List ℕ) (c : ℕ) : Type 0 where
   pub long : length w ≡ 4 * c
   pub nexts : (e : ℕ) → e < c → at w e < c
+
+pub record Renumbered (l : List ℤ) (labels : List ℕ) (vertices : ℕ) (newList map map′ : List ℤ) : Type 0 where
+  pub list : newList ≡ newListOf l labels
+  pub back : map′ ≡ over (mapOf l labels) map
+  pub count : vertices ≡ newVertices labels
 
 -- the corners e and m start the two uses of an edge
 abbrev pub linksAcross : List ℕ → ℕ → ℕ → ℕ → List Link

@@ -1,6 +1,8 @@
 // The global cut with its map, and the classes of the vertices. It stands on `edges` and cites its contracts only; the program
 // and the layers of later requests stand on it.
 mod groups;
+mod renumber;
+mod work;
 
 // The cut's answer.
 pub struct CutAnswer {
