@@ -1,2 +1,11 @@
 pub mod Signs
+pub mod First
 pub mod Runs
+pub mod Repeats
+pub mod Faults
+pub mod Checking
+pub mod Shown
+pub mod Facewise
+pub mod Given
+pub mod Rejoined
+pub mod Bench

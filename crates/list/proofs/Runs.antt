@@ -1,33 +1,20 @@
--- Laws of runs, read from a position of the list: the run there ends, goes on, or the list is past.
-use Prim.Native.Nat.{ℕ, zero, suc, _+_, _≤_, _<_}
-use mathlib.Core.Path.{_≡_, refl, sym, _∙_, ap}
+-- Laws of runs and of the cursor's steps: what a list is from one position on.
+use Prim.Native.Nat.{ℕ, zero, suc, _+_, _-_, _≤_, _<_}
+use mathlib.Core.Path.{_≡_, refl, sym, _∙_, ap₂, subst₃}
 use mathlib.Core.Bool.{Bool, true, false, cond}
 use mathlib.Core.List.{List, [], _∷_, _++_}
 use native.Mathlib.Numerals.{add-one}
 use native.Mathlib.Omega.{arith}
 use lib.IntN.{ℤ, pos, negsuc}
-use native.Mathlib.Nat.{add-suc}
+use native.Mathlib.Nat.{add-suc, add-sub-cancel-left}
+use native.Mathlib.Decide.{decLt}
 use lib.ListN.{length, getD, take, drop, length-drop, drop-of-length-le}
 use lib.Seq.{drop-cons, drop-drop, length-take-le}
-use Rattle.list.specs.Faces.{isEnd, runLength, runs, push, stepAt}
+use Rattle.list.specs.Faces.{isEnd, runLength, runs, push, Face, facesFrom, stepAt}
+use Rattle.list.proofs.First.{first-fits}
+use Rattle.list.specs.declared.Cursor.{Cursor}
+use Rattle.list.specs.declared.Step.{Step}
 use Rattle.list.specs.declared.Step.the-variants as Step·
-
-pub run-ends : (l : List ℤ) (i : ℕ) → i < length l → isEnd (getD l i (pos 0)) ≡ true → runLength (drop i l) ≡ 0
-run-ends l i h e = rw (drop-cons l i (pos 0), e)
-
-pub run-goes-on : (l : List ℤ) (i : ℕ) → i < length l → isEnd (getD l i (pos 0)) ≡ false → runLength (drop i l) ≡ suc (runLength (drop (i + 1) l))
-run-goes-on l i h e = rw (drop-cons l i (pos 0), e, add-one)
-
-pub run-past : (l : List ℤ) (i : ℕ) → length l ≤ i → runLength (drop i l) ≡ 0
-run-past l i h = rw (drop-of-length-le l h)
-
-pub run-fits : (l : List ℤ) → runLength l ≤ length l
-run-fits [] = omega arith
-run-fits (x ∷ xs) = go (isEnd x) (run-fits xs)
-  where
-    go : (b : Bool) → runLength xs ≤ length xs → cond b 0 (suc (runLength xs)) ≤ suc (length xs)
-    go true h = omega arith
-    go false h = omega arith
 
 -- a list that isn't empty is its first run, then the runs behind the -1 that ends it
 pub runs-first : (l : List ℤ) → 0 < length l → runs l ≡ take (runLength l) l ∷ runs (drop (suc (runLength l)) l)
@@ -44,17 +31,68 @@ module _ (l : List ℤ) (i : ℕ) (h : i < length l) where
   nonempty = simp length-drop (omega arith)
 
   pub run-inside : i + runLength (drop i l) ≤ length l
-  run-inside = omega (arith, run-fits (drop i l), length-drop i l)
+  run-inside = omega (arith, first-fits isEnd (drop i l), length-drop i l)
 
   -- the runs from position i are the part of the list up to the end of the run there, then the runs behind its -1
   pub runs-split : runs (drop i l) ≡ take (runLength (drop i l)) (drop i l) ∷ runs (drop (i + runLength (drop i l) + 1) l)
   runs-split = runs-first (drop i l) nonempty ∙ rw (drop-drop (suc (runLength (drop i l))) i l, add-suc, add-one)
 
-  run-long : length (take (runLength (drop i l)) (drop i l)) ≡ runLength (drop i l)
-  run-long = length-take-le (runLength (drop i l)) (drop i l) (run-fits (drop i l))
+  pub run-long : length (take (runLength (drop i l)) (drop i l)) ≡ runLength (drop i l)
+  run-long = length-take-le (runLength (drop i l)) (drop i l) (first-fits isEnd (drop i l))
 
   pub step-face : stepAt l i ≡ Step·.Face i (i + runLength (drop i l)) (record { at = i + runLength (drop i l) + 1 })
   step-face = rw (runs-split, run-long)
 
 pub step-done : (l : List ℤ) (i : ℕ) → length l ≤ i → stepAt l i ≡ Step·.Done
 step-done l i h = rw (drop-of-length-le l h)
+
+-- the cursor at position i answered the face from s to e with the next cursor c
+pub record Stepped (l : List ℤ) (i s e : ℕ) (c : Cursor) : Type 0 where
+  pub here : i < length l
+  pub start : s ≡ i
+  pub order : s ≤ e
+  pub within : e ≤ length l
+  pub next : c .at ≡ e + 1
+  pub run : e ≡ s + runLength (drop i l)
+  pub split : runs (drop i l) ≡ take (e - s) (drop s l) ∷ runs (drop (c .at) l)
+  pub long : length (take (e - s) (drop s l)) ≡ e - s
+
+stepped-to : (l : List ℤ) (i : ℕ) → i < length l → Stepped l i i (i + runLength (drop i l)) (record { at = i + runLength (drop i l) + 1 })
+stepped-to l i h =
+    record {
+      here = h;
+      start = refl;
+      order = omega arith;
+      within = run-inside l i h;
+      next = refl;
+      run = refl;
+      split = rw (add-sub-cancel-left i (runLength (drop i l))) (runs-split l i h);
+      long = rw (add-sub-cancel-left i (runLength (drop i l))) (run-long l i h);
+    }
+
+pub step-stepped : (l : List ℤ) (i s e : ℕ) (c : Cursor) → stepAt l i ≡ Step·.Face s e c → Stepped l i s e c
+step-stepped l i s e c q = go (decLt i (length l))
+  where
+    go : Dec (i < length l) → Stepped l i s e c
+    go (yes h) =
+        let from : i ≡ s = cc (step-face l i h) in
+        let to : i + runLength (drop i l) ≡ e = cc (step-face l i h) in
+        let then : record { at = i + runLength (drop i l) + 1 } ≡ c = cc (step-face l i h) in
+        subst₃ (λ s e c. Stepped l i s e c) from to then (stepped-to l i h)
+    go (no n) = let z : _≡_ {A = ℕ} 0 1 = cc (step-done l i (omega arith)) in absurd (omega arith)
+
+pub step-last : (l : List ℤ) (i : ℕ) → stepAt l i ≡ Step·.Done → drop i l ≡ []
+step-last l i q = go (decLt i (length l))
+  where
+    go : Dec (i < length l) → drop i l ≡ []
+    go (yes h) = let z : _≡_ {A = ℕ} 0 1 = cc (step-face l i h) in absurd (omega arith)
+    go (no n) = drop-of-length-le l {i = i} (omega arith)
+
+-- the faces from a position on are the face that the cursor answered there, then those from the next cursor on
+pub faces-split : (l : List ℤ) (i s e : ℕ) (c : Cursor) → Stepped l i s e c → facesFrom i (runs (drop i l)) ≡ record { start = s; entries = take (e - s) (drop s l) } ∷ facesFrom (c .at) (runs (drop (c .at) l))
+faces-split l i s e c t =
+    rw (t .split)
+    (ap₂ (λ a b. record { start = a; entries = take (e - s) (drop s l) } ∷ facesFrom b (runs (drop (c .at) l))) (sym (t .start)) then)
+  where
+    then : i + length (take (e - s) (drop s l)) + 1 ≡ c .at
+    then = omega (arith, t .here, t .start, t .order, t .next, t .long)

@@ -17,7 +17,7 @@ use lib.Dec.{leb, ltb, eqb}
 use lib.IntN.{ℤ, pos, negsuc}
 use lib.ListN.{length, getD}
 use Rattle.list.specs.Limits.{maxEntries, maxVertices}
-use Rattle.list.specs.Faces.{Face, faces, runs, corners, vertices}
+use Rattle.list.specs.Faces.{Face, faces, runs, corners, vertices, firstWhere}
 use Rattle.list.specs.declared.FaceFault.{FaceFault}
 use Rattle.list.specs.declared.FaceFault.the-variants as Fault·
 use Rattle.list.specs.declared.CheckAnswer.{CheckAnswer}
@@ -28,8 +28,7 @@ outside n (negsuc zero) = false
 outside n (negsuc (suc k)) = true
 
 abbrev pub firstOutside : ℕ → List ℤ → ℕ
-firstOutside n [] = 0
-firstOutside n (x ∷ xs) = cond (outside n x) 0 (suc (firstOutside n xs))
+firstOutside n r = firstWhere (outside n) r
 
 abbrev pub elem : ℕ → List ℕ → Bool
 elem v [] = false
@@ -38,7 +37,7 @@ elem v (w ∷ ws) = eqb v w || elem v ws
 -- the same where the vertices of seen stand before those of vs
 abbrev pub repeatAfter : List ℕ → List ℕ → ℕ
 repeatAfter seen [] = 0
-repeatAfter seen (v ∷ vs) = cond (elem v seen) 0 (suc (repeatAfter (v ∷ seen) vs))
+repeatAfter seen (v ∷ vs) = let later = repeatAfter (v ∷ seen) vs in cond (elem v seen) 0 (suc later)
 
 abbrev pub firstRepeat : List ℕ → ℕ
 firstRepeat vs = repeatAfter [] vs

@@ -2,6 +2,7 @@
 --
 --   isEnd x          the entry x is -1, which ends a face
 --   runs l           the runs between entries of -1; a last run counts only if it isn't empty
+--   firstWhere p l   the place of the first entry that p holds of; l's length if there is none
 --   runLength l      the number of entries before the first -1
 --   Face             where a face starts, as a position among all entries, and its entries without its -1
 --   faces l          the faces of l, numbered from 0 in list order
@@ -34,10 +35,12 @@ abbrev pub runs : List ℤ → List (List ℤ)
 runs [] = []
 runs (x ∷ xs) = let rs = runs xs in cond (isEnd x) ([] ∷ rs) (push x rs)
 
--- the entries before the first -1
+abbrev pub firstWhere : (ℤ → Bool) → List ℤ → ℕ
+firstWhere p [] = 0
+firstWhere p (x ∷ xs) = let later = firstWhere p xs in cond (p x) 0 (suc later)
+
 abbrev pub runLength : List ℤ → ℕ
-runLength [] = 0
-runLength (x ∷ xs) = cond (isEnd x) 0 (suc (runLength xs))
+runLength l = firstWhere isEnd l
 
 pub record Face : Type 0 where
   pub start : ℕ

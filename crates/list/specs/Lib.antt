@@ -2,3 +2,5 @@ pub mod Limits
 pub mod Faces
 pub mod Check
 pub mod Show
+pub mod Codes
+pub mod Flags

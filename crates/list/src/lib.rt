@@ -1,11 +1,12 @@
 // Index lists in the coordIndex layout: the limits, the cursor that goes from face to face, the check, and showing one face.
 // It stands on nothing; every other crate may use it.
 ghost use mathlib.Core.Path.{_≡_};
-ghost use lib.ListN.{getD};
+ghost use lib.ListN.{length, getD};
 ghost use lib.IntN.{pos};
 ghost use Rattle.list.specs.Limits.{maxEntries, maxVertices};
-ghost use Rattle.list.specs.Faces.{stepAt, num};
-ghost use Rattle.list.specs.Check.{checkOf};
+ghost use Rattle.list.specs.Faces.{stepAt, num, faces, corners};
+ghost use Rattle.list.specs.Check.{checkOf, checkFaces, accepted, refused as refusedBy};
+ghost use Rattle.list.specs.Flags.{Flags};
 ghost use Rattle.list.specs.Show.{spanOf, faceOf, asked};
 
 mod entry;
@@ -110,4 +111,96 @@ pub fn vertex_at(l: &[i32], i: usize) -> usize
         return 0;
     }
     x as usize
+}
+
+fn refused(code: u32, place: usize) -> CheckAnswer
+    ensures { λ r. ⌜ r ≡ refusedBy code place ⌝ }
+{
+    CheckAnswer {
+        code,
+        place,
+        faces: 0,
+        corners: 0,
+    }
+}
+
+// Whether the list is valid with n vertices: its number of faces and corners, or the code and place of its first fault.
+pub fn check(list: &[i32], n: usize) -> CheckAnswer
+    ensures { λ r. ⌜ r ≡ checkOf (now (list .entry)) n ⌝ }
+{
+    if IndexList::max_entries() < list.len() {
+        return refused(1, 0);
+    }
+    if IndexList::max_vertices() < n {
+        return refused(2, 0);
+    }
+    let mut flags = [0u8; IndexList::MAX_VERTICES];
+    check_faces(list, n, &mut flags)
+}
+
+// The check of a list within the limits, face by face. There is a flag for each vertex, 0 before and afterwards.
+fn check_faces(list: &[i32], n: usize, flags: &mut [u8]) -> CheckAnswer
+    requires { ⌜ Flags n (now flags) ⌝ }
+    ensures { λ r. ⌜ r ≡ checkFaces n (faces (now (list .entry))) (accepted (length (faces (now (list .entry)))) (length (corners (now (list .entry))))) ⌝ }
+{
+    let mut cursor = IndexList::cursor();
+    let mut count = 0;
+    let mut corners = 0;
+    loop {
+        let Step::Face { start, end, next } = cursor.next(list) else {
+            return CheckAnswer {
+                code: 0,
+                place: 0,
+                faces: count,
+                corners,
+            };
+        };
+        match rules::face_fault(&list[start..end], n, flags) {
+            FaceFault::Sound => {}
+            FaceFault::Outside(i) => return refused(3, start + i),
+            FaceFault::Short => return refused(4, start),
+            FaceFault::Repeated(i) => return refused(5, start + i),
+        }
+        count += 1;
+        corners += end - start;
+        cursor = next;
+    }
+}
+
+// Where face k of the list starts and ends, without its -1; 0 and 0 where there is no face k. It reads any entries.
+pub fn face_span(list: &[i32], k: usize) -> Span
+    ensures { λ r. ⌜ r ≡ spanOf (now (list .entry)) k ⌝ }
+{
+    let mut cursor = IndexList::cursor();
+    let mut left = k;
+    loop {
+        let Step::Face { start, end, next } = cursor.next(list) else {
+            return Span { start: 0, end: 0 };
+        };
+        if left == 0 {
+            return Span { start, end };
+        }
+        left -= 1;
+        cursor = next;
+    }
+}
+
+// Face k of the list before the cut or of the list after it, a part of that list without its -1; where there is no face k,
+// the empty part at the start of that list.
+pub fn face<'a>(before: &'a [i32], after: &'a [i32], which: Which, k: usize) -> &'a [i32]
+    ensures { λ r. ⌜ now r ≡ faceOf (asked which (now (before .entry)) (now (after .entry))) k ⌝ }
+{
+    match which {
+        Which::Before => part(before, k),
+        Which::After => part(after, k),
+    }
+}
+
+fn part(list: &[i32], k: usize) -> &[i32]
+    ensures { λ r. ⌜ now r ≡ faceOf (now (list .entry)) k ⌝ }
+{
+    let span = face_span(list, k);
+    let start = span.start;
+    let end = span.end;
+    &list[start..end]
 }

@@ -4,8 +4,8 @@ use mathlib.Core.Path.{_≡_, refl, sym, _∙_}
 use native.Mathlib.Omega.{arith}
 use lib.ListN.{length, drop}
 use denote.Ref.{now}
-use Rattle.list.specs.Faces.{runLength}
-use Rattle.list.proofs.Runs.{run-ends, run-goes-on, run-past}
+use Rattle.list.specs.Faces.{isEnd, runLength}
+use Rattle.list.proofs.First.{first-here, first-later, first-past}
 use Rattle.list.proofs.entry.run_end.Statement.{statement}
 use Rattle.list.proofs.entry.run_end.Tie as tie
 
@@ -25,7 +25,7 @@ returns : tie.Need-returns Inv-loop μ-loop
 returns c =
     let i = c .before .before .before .loop .i in
     let l = now (c .before .before .before .before .args .l) in
-    omega (arith, run-ends l i (c .before .before .loop-test .taken) (sym (c .before .end-at .ensures) ∙ c .if1 .taken))
+    omega (arith, first-here isEnd l i (c .before .before .loop-test .taken) (sym (c .before .end-at .ensures) ∙ c .if1 .taken))
 
 add-i : tie.Need-add-i Inv-loop μ-loop
 add-i c = omega arith
@@ -37,10 +37,10 @@ loop-again : tie.Need-loop-again Inv-loop μ-loop
 loop-again c =
     let i = c .before .before .before .loop .i in
     let l = now (c .before .before .before .before .args .l) in
-    omega (arith, run-goes-on l i (c .before .before .loop-test .taken) (sym (c .before .end-at .ensures) ∙ c .if1 .left))
+    omega (arith, first-later isEnd l i (c .before .before .loop-test .taken) (sym (c .before .end-at .ensures) ∙ c .if1 .left))
 
 returns-2 : tie.Need-returns-2 Inv-loop μ-loop
-returns-2 c = omega (arith, run-past (now (c .before .before .args .l)) (c .before .loop .i) (c .loop-test .left))
+returns-2 c = omega (arith, first-past isEnd (now (c .before .before .args .l)) (c .before .loop .i) (c .loop-test .left))
 
 pub run-end-spec : {M : Type 1} → statement M
 run-end-spec =
