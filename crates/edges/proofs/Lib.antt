@@ -1,0 +1,5 @@
+pub mod Lists
+pub mod Uses
+pub mod Faces
+pub mod Mates
+pub mod Table
