@@ -4,8 +4,9 @@ use mathlib.Core.Path.{_≡_, refl, sym, _∙_, ap}
 use mathlib.Core.List.{List, [], _∷_, _++_, append-assoc, append-nil}
 use native.Mathlib.Numerals.{add-one}
 use native.Mathlib.Omega.{arith}
-use lib.ListN.{length, getD, set, drop, length-append, length-drop}
-use lib.Seq.{drop-cons, set-at, append-snoc}
+use borrow.Author.Fill.{fill-none, fill-more}
+use lib.ListN.{length, getD, set, drop, replicate, length-append, length-drop, length-set}
+use lib.Seq.{drop-cons, drop-length, set-at, append-snoc}
 
 module _ {A : Type 0} where
   -- the buffer xs, at first old, is written up to i, and rest is left to write of whole
@@ -35,3 +36,19 @@ module _ {A : Type 0} where
       let all : F .front ≡ whole = sym (append-nil (F .front)) ∙ F .makes in
       let size : length whole ≡ i = ap length (sym all) ∙ F .size in
       (F .is ∙ rw (all, size), size)
+
+-- the numbers before i are 0, the others as they were
+abbrev pub Cleared : List ℕ → List ℕ → ℕ → Type 0
+Cleared old xs i = (length xs ≡ length old) × (i ≤ length old) × (xs ≡ replicate i 0 ++ drop i old)
+
+pub cleared-start : (old : List ℕ) → Cleared old old 0
+cleared-start old = (refl, omega arith, fill-none old 0)
+
+pub cleared-more : (old xs : List ℕ) (i : ℕ) → i < length old → Cleared old xs i → Cleared old (set xs i 0) (i + 1)
+cleared-more old xs i h C =
+    (length-set xs i 0 ∙ C .0, omega arith, ap (λ (ys : List ℕ). set ys i 0) (C .2) ∙ fill-more i 0 old h)
+
+pub cleared-all : (old xs : List ℕ) (i : ℕ) → length old ≤ i → Cleared old xs i → xs ≡ replicate (length old) 0
+cleared-all old xs i h C =
+    let all : i ≡ length old = omega (arith, C .1) in
+    C .2 ∙ rw (all, drop-length old) (append-nil (replicate (length old) 0))

@@ -4,5 +4,8 @@ pub mod Joined
 pub mod JoinLoop
 pub mod Roots
 pub mod Numbering
+pub mod TableLinks
+pub mod Marking
+pub mod Classing
 pub mod Walk
 pub mod MapLoop

@@ -7,10 +7,11 @@
 --   Climbs w p x r     r is reached from x by going from child to parent, and is its own parent where no parent is after its child
 --   Regrouped w w' p g the block at p of w has become that of w', and groups of labels have become those of g of the labels
 --   TableWords w c     the work of c corners: four blocks, and each next corner is a corner
+--   VertexWords w c n  the same, with few corners and all vertices below n
 --   Renumbered         the new list, the map before and after it is written, and the new vertices, for these labels
 --   linksAtCorner      the links across the edge that starts at a corner, from the words of the edge table
 --   tableLinks w c     the links of the edge table in w
-use Prim.Native.Nat.{ℕ, zero, suc, _+_, _*_, _≤_, _<_}
+use Prim.Native.Nat.{ℕ, zero, suc, _+_, _*_, _≤_, _<_, _^_}
 use mathlib.Core.Path.{_≡_}
 use mathlib.Core.List.{List, [], _∷_, _++_}
 use mathlib.Core.Bool.{Bool, true, false, cond, _&&_}
@@ -45,6 +46,11 @@ pub record Regrouped (w w′ : List ℕ) (p : ℕ) (g : List ℕ → List ℕ) :
 pub record TableWords (w : List ℕ) (c : ℕ) : Type 0 where
   pub long : length w ≡ 4 * c
   pub nexts : (e : ℕ) → e < c → at w e < c
+
+pub record VertexWords (w : List ℕ) (c n : ℕ) : Type 0 where
+  pub table : TableWords w c
+  pub few : c < 2 ^ 30
+  pub inside : (e : ℕ) → e < c → at w (c + e) < n
 
 pub record Renumbered (l : List ℤ) (labels : List ℕ) (vertices : ℕ) (newList map map′ : List ℤ) : Type 0 where
   pub list : newList ≡ newListOf l labels

@@ -3,3 +3,4 @@ pub mod Renumber
 pub mod Classes
 pub mod Cut
 pub mod Forest
+pub mod Marks

@@ -1,6 +1,7 @@
 // The global cut with its map, and the classes of the vertices. It stands on `edges` and cites its contracts only; the program
 // and the layers of later requests stand on it.
 mod groups;
+mod marks;
 mod renumber;
 mod work;
 

@@ -1,23 +1,21 @@
 -- `work::clear` meets its contract: the words before i are 0, the others as they were.
-use native.Mathlib.Omega.{arith}
-use Prim.Native.Nat.{ℕ, _+_, _-_, _≤_}
-use mathlib.Core.Path.{_≡_, refl, _∙_, ap}
-use mathlib.Core.List.{List, _++_, append-nil}
+use Prim.Native.Nat.{_-_}
+use mathlib.Core.Path.{_≡_, refl}
 use denote.Ref.{now}
-use borrow.Author.Fill.{fill-none, fill-more}
-use lib.ListN.{length, set, drop, replicate, length-set}
-use lib.Seq.{drop-length}
+use lib.ListN.{length}
+use Rattle.cut.proofs.Filled.{Cleared, cleared-start, cleared-more, cleared-all}
+use native.Mathlib.Omega.{arith}
 use Rattle.cut.proofs.work.clear.Statement.{statement}
 use Rattle.cut.proofs.work.clear.Tie as tie
 
 abbrev Inv-loop : tie.InvT-loop
-Inv-loop w₀ i₀ i-end w i = (length w ≡ length w₀) × (i ≤ length w₀) × (i-end ≡ length w₀) × (w ≡ replicate i 0 ++ drop i w₀)
+Inv-loop w₀ i₀ i-end w i = (i-end ≡ length w₀) × Cleared w₀ w i
 
 abbrev μ-loop : tie.MeasureT-loop
 μ-loop w₀ i₀ i-end w i = i-end - i
 
 loop-holds : tie.Need-loop-holds Inv-loop μ-loop
-loop-holds c = (refl, omega arith, refl, fill-none (now (c .args .w)) 0)
+loop-holds c = (refl, cleared-start (now (c .args .w)))
 
 mul-w : tie.Need-mul-w Inv-loop μ-loop
 mul-w c = omega arith
@@ -34,12 +32,7 @@ loop-less c = omega arith
 loop-again : tie.Need-loop-again Inv-loop μ-loop
 loop-again c =
     let l = c .before .loop in
-    let w₀ = now (c .before .before .args .w) in (
-      length-set (l .w) (l .i) 0 ∙ l .inv .0,
-      omega arith,
-      refl,
-      ap (λ (xs : List ℕ). set xs (l .i) 0) (l .inv .3) ∙ fill-more (l .i) 0 w₀ (omega arith),
-    )
+    (refl, cleared-more (now (c .before .before .args .w)) (l .w) (l .i) (omega arith) (l .inv .1))
 
 same-length : tie.Need-same-length Inv-loop μ-loop
 same-length c = omega arith
@@ -47,9 +40,7 @@ same-length c = omega arith
 returns : tie.Need-returns Inv-loop μ-loop
 returns c =
     let l = c .before .loop in
-    let w₀ = now (c .before .before .args .w) in
-    let all : l .i ≡ length w₀ = omega (arith, c .loop-test .left) in
-    l .inv .3 ∙ rw (all, drop-length w₀) (append-nil (replicate (length w₀) 0))
+    cleared-all (now (c .before .before .args .w)) (l .w) (l .i) (omega (arith, c .loop-test .left)) (l .inv .1)
 
 pub clear-spec : {M : Type 1} → statement M
 clear-spec =
