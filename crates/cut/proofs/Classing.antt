@@ -20,7 +20,7 @@ use Rattle.edges.proofs.Table.{table-next, table-vertex, table-mate}
 use Rattle.cut.specs.Groups.{noUse, countFrom, upTo, fanLabels}
 use Rattle.cut.specs.Renumber.{distinct}
 use Rattle.cut.specs.Classes.{touches, endsEdgeOf, endsEdge, hasFace, labelsAt, fansAt, classOf, classesOf}
-use Rattle.cut.specs.Forest.{at, Forest}
+use Rattle.cut.specs.Forest.{at, Forest, Grouped}
 use Rattle.cut.specs.Marks.{isRootOn, rootsOn, fanMark, touchesAt, marksEnd, boundaryWord, singularWord, raised, finished, finalMark}
 use Rattle.cut.proofs.Counting.{word-kept, map-at, length-countFrom, at-countFrom}
 use Rattle.cut.proofs.Roots.{Earliest, forest-earliest, parent-earlier, parent-own, rootsIn, pick, distinct-roots}
@@ -205,3 +205,7 @@ module _ (l : List ℤ) (w : List ℕ) (front : take (3 * length (uses l)) w ≡
       (λ v i.
       let z : at (upTo n) v ≡ v = at-countFrom 0 n v (omega arith) ∙ omega arith in
       f v (omega arith) ∙ class-found v ∙ sym (map-at (classOf l) (upTo n) v (omega arith) ∙ ap (classOf l) z))
+
+pub grouped-classes : (l : List ℤ) (c : ℕ) (w : List ℕ) → Grouped l c w → (n : ℕ) (xs : List ℕ) → length xs ≡ n → ((v : ℕ) → v < n → at xs v ≡ finalMark w c v (fanMark (rootsOn w c v 0 c))) → xs ≡ classesOf l n
+grouped-classes l c w G n xs h f =
+    classes-found l w (rw (G .count) at (G .front)) (rw (G .count) at (G .forest)) (rw (G .count) at (G .size)) n xs h (rw (G .count) at f)

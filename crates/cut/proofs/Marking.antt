@@ -2,16 +2,17 @@
 use Prim.Native.Nat.{ℕ, zero, suc, _+_, _-_, _*_, _≤_, _<_, _^_}
 use mathlib.Core.Path.{_≡_, refl, sym, _∙_, ap}
 use mathlib.Core.Bool.{Bool, true, false, cond, _&&_, _||_}
-use mathlib.Core.List.{List, [], _∷_}
+use mathlib.Core.List.{List, [], _∷_, _++_}
 use native.Mathlib.Numerals.{add-one}
 use native.Mathlib.Nat.{sub-zero}
 use native.Mathlib.Omega.{arith}
 use borrow.Author.Tests.{eqb-true, eqb-false, eq-eqb, ne-eqb, le-leb, lt-leb}
 use lib.Dec.{leb, eqb}
-use lib.ListN.{length, set, drop, replicate, length-set, getD-replicate, drop-of-length-le}
-use lib.Seq.{drop-cons, getD-set-same, getD-set-other}
+use lib.IntN.{ℤ}
+use lib.ListN.{length, set, take, drop, replicate, length-set, getD-replicate, drop-of-length-le}
+use lib.Seq.{drop-cons, getD-set-same, getD-set-other, length-take-le, take-at}
 use Rattle.edges.specs.Choose.{count}
-use Rattle.cut.specs.Classes.{isSingularClass}
+use Rattle.cut.specs.Classes.{isSingularClass, classesOf, singularVertices}
 use Rattle.cut.specs.Forest.{at, VertexWords}
 use Rattle.cut.specs.Marks.{isRootOn, rootsOn, fanMark, touchesAt, marksEnd, boundaryWord, singularWord, raised, finished, finalMark}
 use Rattle.cut.proofs.Counting.{count-down}
@@ -228,3 +229,16 @@ pub count-done : (xs : List ℕ) (k v : ℕ) → length xs ≤ v → CountLoop x
 count-done xs k v h L =
     let l : k + 0 ≡ count isSingularClass xs = rw (drop-of-length-le xs {i = v} h) at (L .left) in
     omega arith
+
+-- the part that was lent and comes back
+module _ (n : ℕ) (old xs : List ℕ) (room : n ≤ length old) (same : length xs ≡ length (take n old)) where
+  pub part-long : length xs ≡ n
+  part-long = same ∙ length-take-le n old room
+
+  pub part-back : take n (xs ++ drop n old) ≡ xs
+  part-back = take-at xs (drop n old) n part-long
+
+  pub singular-counted : (l : List ℤ) (k : ℕ) → xs ≡ classesOf l (length (take n old)) → k ≡ count isSingularClass (take n (xs ++ drop n old)) → k ≡ singularVertices l n
+  unfolding singularVertices
+  singular-counted l k a b =
+      b ∙ ap (count isSingularClass) (part-back ∙ a ∙ ap (classesOf l) (length-take-le n old room))

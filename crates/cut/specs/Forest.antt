@@ -8,6 +8,7 @@
 --   Regrouped w w' p g the block at p of w has become that of w', and groups of labels have become those of g of the labels
 --   TableWords w c     the work of c corners: four blocks, and each next corner is a corner
 --   VertexWords w c n  the same, with few corners and all vertices below n
+--   Grouped l c w      w holds the edge table of the list l, of c corners, and behind it the parents of its fans
 --   Renumbered         the new list, the map before and after it is written, and the new vertices, for these labels
 --   linksAtCorner      the links across the edge that starts at a corner, from the words of the edge table
 --   tableLinks w c     the links of the edge table in w
@@ -18,7 +19,9 @@ use mathlib.Core.Bool.{Bool, true, false, cond, _&&_}
 use lib.Dec.{ltb, eqb}
 use lib.IntN.{ℤ}
 use lib.ListN.{length, getD, take}
-use Rattle.cut.specs.Groups.{Link}
+use Rattle.cut.specs.Groups.{Link, fanLabels}
+use Rattle.edges.specs.Uses.{uses}
+use Rattle.edges.specs.Table.{tableOf}
 use Rattle.cut.specs.Renumber.{newListOf, newVertices, mapOf}
 use Rattle.cut.specs.Cut.{over}
 
@@ -51,6 +54,12 @@ pub record VertexWords (w : List ℕ) (c n : ℕ) : Type 0 where
   pub table : TableWords w c
   pub few : c < 2 ^ 30
   pub inside : (e : ℕ) → e < c → at w (c + e) < n
+
+pub record Grouped (l : List ℤ) (c : ℕ) (w : List ℕ) : Type 0 where
+  pub count : c ≡ length (uses l)
+  pub size : length w ≡ 4 * c
+  pub front : take (3 * c) w ≡ take (3 * c) (tableOf l)
+  pub forest : Forest w (3 * c) (fanLabels l)
 
 pub record Renumbered (l : List ℤ) (labels : List ℕ) (vertices : ℕ) (newList map map′ : List ℤ) : Type 0 where
   pub list : newList ≡ newListOf l labels

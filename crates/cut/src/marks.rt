@@ -1,13 +1,15 @@
 // The classes of the vertices from the edge table and the groups in the work buffer, marked in one byte for each vertex.
+use list::IndexList;
 ghost use mathlib.Core.Path.{_≡_};
-ghost use mathlib.Core.Bool.{cond, _||_};
-ghost use Prim.Native.Nat.{ℕ, _+_, _*_, _<_, _≤_, _^_};
-ghost use lib.Dec.{eqb};
-ghost use lib.ListN.{length, getD, set, replicate};
+ghost use mathlib.Core.List.{List};
+ghost use Prim.Native.Nat.{ℕ, _<_, _≤_};
+ghost use lib.IntN.{ℤ};
+ghost use lib.ListN.{length, set, replicate};
+ghost use Rattle.list.specs.Limits.{maxVertices};
 ghost use Rattle.edges.specs.Choose.{count};
-ghost use Rattle.cut.specs.Classes.{isSingularClass};
+ghost use Rattle.cut.specs.Classes.{isSingularClass, classesOf, singularVertices};
 ghost use Rattle.cut.specs.Marks.{rootsOn, fanMark, raised, finalMark};
-ghost use Rattle.cut.specs.Forest.{at, VertexWords};
+ghost use Rattle.cut.specs.Forest.{at, VertexWords, Grouped};
 
 fn clear_marks(marks: &mut [u8])
     ensures { λ _. ⌜ now (marks .exit) ≡ replicate (length (now (marks .entry))) 0 ⌝ }
@@ -67,7 +69,7 @@ fn mark_ends(w: &[u32], c: usize, marks: &mut [u8])
 // Marks each vertex with its class.
 pub fn mark(w: &[u32], c: usize, marks: &mut [u8])
     requires { ⌜ VertexWords (now w) c (length (now marks)) ⌝ }
-    ensures { λ _. ⌜ ((v : ℕ) → v < length (now (marks .entry)) → at (now (marks .exit)) v ≡ finalMark (now (w .entry)) c v (fanMark (rootsOn (now (w .entry)) c v 0 c))) ⌝ }
+    ensures { λ _. ⌜ ((l : List ℤ) → Grouped l c (now (w .entry)) → now (marks .exit) ≡ classesOf l (length (now (marks .entry)))) ⌝ }
 {
     clear_marks(marks);
     mark_fans(w, c, marks);
@@ -85,4 +87,22 @@ pub fn count_singular(marks: &[u8]) -> usize
         }
     }
     k
+}
+
+// How many of n vertices are singular, with marks for at least n vertices.
+fn singular_among(w: &[u32], c: usize, n: usize, marks: &mut [u8]) -> usize
+    requires { ⌜ VertexWords (now w) c n × (n ≤ length (now marks)) ⌝ }
+    ensures { λ r. ⌜ ((l : List ℤ) → Grouped l c (now (w .entry)) → r ≡ singularVertices l n) ⌝ }
+{
+    mark(w, c, &mut marks[..n]);
+    count_singular(&marks[..n])
+}
+
+// The same with marks of its own.
+pub fn singular_vertices(w: &[u32], c: usize, n: usize) -> usize
+    requires { ⌜ VertexWords (now w) c n × (n ≤ maxVertices) ⌝ }
+    ensures { λ r. ⌜ ((l : List ℤ) → Grouped l c (now (w .entry)) → r ≡ singularVertices l n) ⌝ }
+{
+    let mut marks = [0u8; IndexList::MAX_VERTICES];
+    singular_among(w, c, n, &mut marks)
 }
