@@ -7,5 +7,7 @@ pub mod Numbering
 pub mod TableLinks
 pub mod Marking
 pub mod Classing
+pub mod Grouping
+pub mod Answers
 pub mod Walk
 pub mod MapLoop

@@ -18,11 +18,12 @@ use mathlib.Core.List.{List, [], _∷_, _++_}
 use mathlib.Core.Bool.{Bool, true, false, cond, _&&_}
 use lib.Dec.{ltb, eqb}
 use lib.IntN.{ℤ}
-use lib.ListN.{length, getD, take}
-use Rattle.cut.specs.Groups.{Link, fanLabels}
-use Rattle.edges.specs.Uses.{uses}
+use lib.ListN.{length, getD, take, replicate}
+use Rattle.cut.specs.Groups.{Link, fanLabels, groupLabels}
+use Rattle.edges.specs.Uses.{uses, singularEdges}
 use Rattle.edges.specs.Table.{tableOf}
 use Rattle.cut.specs.Renumber.{newListOf, newVertices, mapOf}
+use Rattle.cut.specs.Classes.{singularVertices}
 use Rattle.cut.specs.Cut.{over}
 
 abbrev pub at : List ℕ → ℕ → ℕ
@@ -83,3 +84,12 @@ linksFromCorner w c e (suc n) = linksAtCorner w c e ++ linksFromCorner w c (suc 
 
 unfoldable pub tableLinks : List ℕ → ℕ → List Link
 tableLinks w c = linksFromCorner w c 0 c
+
+-- what is made of a valid list: the three counts, the new list, the map and the cleared work
+pub record CutMade (l : List ℤ) (n c : ℕ) (vertices edges points : ℕ) (newList map map′ : List ℤ) (work : List ℕ) : Type 0 where
+  pub list : newList ≡ newListOf l (groupLabels l)
+  pub back : map′ ≡ over (mapOf l (groupLabels l)) map
+  pub cleared : work ≡ replicate (4 * c) 0
+  pub vertices-are : vertices ≡ newVertices (groupLabels l)
+  pub edges-are : edges ≡ singularEdges l
+  pub points-are : points ≡ singularVertices l n
