@@ -12,9 +12,9 @@ use lib.IntN.{ℤ, pos}
 use lib.ListN.{length, getD, length-append, length-map, List·getD-map}
 use Rattle.list.specs.Faces.{runs, num, vertices}
 use Rattle.list.specs.Check.{ValidFace, Valid}
-use Rattle.edges.specs.Choose.{choose, count}
+use Rattle.edges.specs.Choose.{choose, count, All}
 use Rattle.edges.specs.Uses.{Use, usesToEnd, usesOfFace, usesFrom, uses, lo, hi, onEdge, usesOn, facesOn}
-use Rattle.edges.proofs.Lists.{All, all-of, all-at, all-append, choose-append, choose-one}
+use Rattle.edges.proofs.Lists.{all-of, all-at, all-append, choose-append, choose-one}
 use Rattle.edges.proofs.Uses.{noUse, useAt, useIn, use-in, uses-face-long, nextIn, next-inside}
 
 abbrev pub hasEdge : ℕ → ℕ → List ℤ → Bool

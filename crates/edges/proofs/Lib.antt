@@ -3,3 +3,9 @@ pub mod Uses
 pub mod Faces
 pub mod Mates
 pub mod Table
+pub mod Parts
+pub mod Blocks
+pub mod Scatter
+pub mod Counting
+pub mod Chain
+pub mod Pairs

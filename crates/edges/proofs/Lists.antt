@@ -1,8 +1,6 @@
 -- Laws of choosing and counting, of numbers in a row, and of lists whose elements all have a property.
 --
---   All P xs        every element of xs has the property P
 --   In x xs         x is an element of xs
---   upFrom s m      s, s+1, .. : m numbers in a row
 --   Rising s xs     the numbers xs rise strictly, from s on
 use Prim.Native.Nat.{ℕ, zero, suc, _+_, _≤_, _<_}
 use mathlib.Core.Path.{_≡_, refl, sym, _∙_, ap}
@@ -12,13 +10,9 @@ use mathlib.Core.Logic.{_⊎_, inl, inr, ⊎-elim}
 use native.Mathlib.Omega.{arith}
 use native.Mathlib.Nat.{add-zero, add-suc, suc-add, zero-add, eq-or-lt-of-le}
 use lib.ListN.{length, getD}
-use Rattle.edges.specs.Choose.{choose}
+use Rattle.edges.specs.Choose.{choose, All, upFrom}
 
 module _ {A : Type 0} where
-  abbrev pub All : (A → Type 0) → List A → Type 0
-  All P [] = Unit {0}
-  All P (x ∷ xs) = P x × All P xs
-
   abbrev pub In : A → List A → Type 0
   In x [] = ⊥
   In x (y ∷ ys) = (x ≡ y) ⊎ In x ys
@@ -82,6 +76,11 @@ module _ {A : Type 0} where
       go true e ih (inr i) = (inr (ih i .0), ih i .1)
       go false e ih i = (inr (ih i .0), ih i .1)
 
+  pub in-at : (d x : A) (xs : List A) → In x xs → (p : ℕ) × (p < length xs) × (getD xs p d ≡ x)
+  in-at d x [] i = absurd i
+  in-at d x (y ∷ ys) (inl e) = (0, omega arith, sym e)
+  in-at d x (y ∷ ys) (inr i) = let r = in-at d x ys i in (suc (r .0), omega (arith, r .1), r .2)
+
   pub choose-few : (p : A → Bool) (xs : List A) → length (choose p xs) ≤ length xs
   choose-few p [] = omega arith
   choose-few p (x ∷ xs) = go (p x) (choose-few p xs)
@@ -125,10 +124,6 @@ module _ {A B : Type 0} where
       go true e = ap (λ (l : List B). f x ∷ l) e
       go false e = e
 
-abbrev pub upFrom : ℕ → ℕ → List ℕ
-upFrom s zero = []
-upFrom s (suc m) = s ∷ upFrom (suc s) m
-
 pub length-upFrom : (s m : ℕ) → length (upFrom s m) ≡ m
 length-upFrom s zero = refl
 length-upFrom s (suc m) = ap suc (length-upFrom (suc s) m)
@@ -136,6 +131,9 @@ length-upFrom s (suc m) = ap suc (length-upFrom (suc s) m)
 pub upFrom-add : (s m k : ℕ) → upFrom s (m + k) ≡ upFrom s m ++ upFrom (s + m) k
 upFrom-add s zero k = rw (zero-add, add-zero)
 upFrom-add s (suc m) k = rw (suc-add, add-suc s m, ← suc-add s m) (ap (λ (l : List ℕ). s ∷ l) (upFrom-add (suc s) m k))
+
+pub upFrom-snoc : (s m : ℕ) → upFrom s (m + 1) ≡ upFrom s m ++ ((s + m) ∷ [])
+upFrom-snoc s m = upFrom-add s m 1
 
 pub getD-upFrom : (s m i d : ℕ) → i < m → getD (upFrom s m) i d ≡ s + i
 getD-upFrom s zero i d h = absurd (omega arith)

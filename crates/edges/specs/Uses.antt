@@ -11,9 +11,9 @@
 --   Mate               what a use meets across its edge: alone (no other face), the other use's corner, or many
 --   mateOf us u        the mate of the use u
 --   singularEdges l    the number of edges of l with three or more faces
-use Prim.Native.Nat.{ℕ, zero, suc, _+_, min, max}
+use Prim.Native.Nat.{ℕ, _+_, min, max}
 use mathlib.Core.List.{List, [], _∷_, _++_, map}
-use mathlib.Core.Bool.{Bool, true, false, cond, _&&_}
+use mathlib.Core.Bool.{Bool, false, cond, _&&_}
 use lib.Dec.{leb, eqb}
 use lib.IntN.{ℤ}
 use lib.ListN.{length}
