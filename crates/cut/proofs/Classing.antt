@@ -10,10 +10,10 @@ use lib.Dec.{leb, ltb, eqb}
 use lib.IntN.{ℤ}
 use lib.ListN.{length, getD, take, drop, length-map, drop-of-length-le}
 use lib.Seq.{drop-cons, ext-getD}
-use Rattle.edges.specs.Choose.{choose, count}
+use Rattle.edges.specs.Choose.{All, choose, count}
 use Rattle.edges.specs.Uses.{Use, uses, usesOn, isBoundary, isSingular, Mate, alone, other, many}
 use Rattle.edges.specs.Table.{mateWord, tableOf}
-use Rattle.edges.proofs.Lists.{All, choose-none, choose-same}
+use Rattle.edges.proofs.Lists.{choose-none, choose-same}
 use Rattle.edges.proofs.Uses.{useAt, next-below, to-next}
 use Rattle.edges.proofs.Mates.{mate, word, facesAt, mate-alone, mate-many, word-alone, word-many}
 use Rattle.edges.proofs.Table.{table-next, table-vertex, table-mate}

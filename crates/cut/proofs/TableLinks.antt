@@ -12,7 +12,8 @@ use lib.ListN.{length, drop, length-map, drop-of-length-le}
 use lib.Seq.{drop-cons}
 use Rattle.edges.specs.Uses.{Use, uses, lo, hi, onEdge, Mate, alone, other, many, mateOf}
 use Rattle.edges.specs.Table.{mateWord, tableOf}
-use Rattle.edges.proofs.Lists.{All, all-append}
+use Rattle.edges.specs.Choose.{All}
+use Rattle.edges.proofs.Lists.{all-append}
 use Rattle.edges.proofs.Uses.{useAt, corner-at, next-below, to-next}
 use Rattle.edges.proofs.Faces.{on-edge}
 use Rattle.edges.proofs.Mates.{mate, word, Regular, mate-regular, word-other}

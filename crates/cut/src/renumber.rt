@@ -75,10 +75,10 @@ fn fill_map(list: &[i32], w: &[u32], c: usize, map: &mut [i32])
 {
     let mut e = 0;
     let mut k = 0;
-    for i in 0..list.len() {
-        if !end_at(list, i) {
+    for j in 0..list.len() {
+        if !end_at(list, j) {
             if e <= w[3 * c + e] as usize {
-                copy_entry(list, i, map, k);
+                copy_entry(list, j, map, k);
                 k += 1;
             }
             e += 1;

@@ -15,19 +15,19 @@ use Rattle.cut.proofs.renumber.fill_map.Statement.{statement}
 use Rattle.cut.proofs.renumber.fill_map.Tie as tie
 
 abbrev Inv-loop : tie.InvT-loop
-Inv-loop list w c map₀ e₀ k₀ i₀ i-end map e k i = (i ≤ length list) × (i-end ≡ length list) × MapLoop list w c map₀ map e k i
+Inv-loop list w c map₀ e₀ k₀ j₀ j-end map e k j = (j ≤ length list) × (j-end ≡ length list) × MapLoop list w c map₀ map e k j
 
 abbrev μ-loop : tie.MeasureT-loop
-μ-loop list w c map₀ e₀ k₀ i₀ i-end map e k i = i-end - i
+μ-loop list w c map₀ e₀ k₀ j₀ j-end map e k j = j-end - j
 
 -- the turn at the loop's head, and that a corner stands there
-turn : (c : tie.After-end-at Inv-loop μ-loop) → MapTurn (now (c .before .before .before .before .args .list)) (now (c .before .before .before .before .args .w)) (c .before .before .before .before .args .c) (now (c .before .before .before .before .args .map)) (c .before .before .loop .map) (c .before .before .loop .e) (c .before .before .loop .k) (c .before .before .loop .i)
+turn : (c : tie.After-end-at Inv-loop μ-loop) → MapTurn (now (c .before .before .before .before .args .list)) (now (c .before .before .before .before .args .w)) (c .before .before .before .before .args .c) (now (c .before .before .before .before .args .map)) (c .before .before .loop .map) (c .before .before .loop .e) (c .before .before .loop .k) (c .before .before .loop .j)
 turn c =
     let l = c .before .before .loop in
     let z = c .before .before .before .before in
-    map-turn (now (z .args .list)) (now (z .args .w)) (z .args .c) (z .pre .0) (z .pre .1) (now (z .args .map)) (l .map) (z .pre .2) (l .e) (l .k) (l .i) (c .before .loop-test .taken) (l .inv .2)
+    map-turn (now (z .args .list)) (now (z .args .w)) (z .args .c) (z .pre .0) (z .pre .1) (now (z .args .map)) (l .map) (z .pre .2) (l .e) (l .k) (l .j) (c .before .loop-test .taken) (l .inv .2)
 
-corner : (c : tie.Then1 Inv-loop μ-loop) → isEnd (getD (now (c .before .before .before .before .before .args .list)) (c .before .before .before .loop .i) (pos 0)) ≡ false
+corner : (c : tie.Then1 Inv-loop μ-loop) → isEnd (getD (now (c .before .before .before .before .before .args .list)) (c .before .before .before .loop .j) (pos 0)) ≡ false
 corner c = sym (c .before .end-at .ensures) ∙ not-true (c .before .end-at .result) (c .if1 .taken)
 
 loop-holds : tie.Need-loop-holds Inv-loop μ-loop
@@ -60,8 +60,8 @@ add-k c = omega arith
 add-e : tie.Need-add-e Inv-loop μ-loop
 add-e c = omega arith
 
-add-i : tie.Need-add-i Inv-loop μ-loop
-add-i c = omega arith
+add-j : tie.Need-add-j Inv-loop μ-loop
+add-j c = omega arith
 
 loop-less : tie.Need-loop-less Inv-loop μ-loop
 loop-less c = omega arith
@@ -87,7 +87,7 @@ returns : tie.Need-returns Inv-loop μ-loop
 returns c labels F =
     let l = c .before .loop in
     let z = c .before .before .before in
-    map-done (now (z .args .list)) (now (z .args .w)) (z .args .c) (z .pre .0) (now (z .args .map)) (l .map) (l .e) (l .k) (l .i) (z .pre .1) (omega (arith, c .loop-test .left)) (l .inv .2) labels F
+    map-done (now (z .args .list)) (now (z .args .w)) (z .args .c) (z .pre .0) (now (z .args .map)) (l .map) (l .e) (l .k) (l .j) (z .pre .1) (omega (arith, c .loop-test .left)) (l .inv .2) labels F
 
 pub fill-map-spec : {M : Type 1} → statement M
 fill-map-spec =
@@ -105,7 +105,7 @@ fill-map-spec =
     copy-entry-requires
     add-k
     add-e
-    add-i
+    add-j
     loop-less
     loop-again
     same-length
