@@ -13,9 +13,9 @@ use lib.ListN.{length, getD, length-append, length-map, List·getD-map}
 use Rattle.list.specs.Faces.{runs, num, vertices}
 use Rattle.list.specs.Check.{ValidFace, Valid}
 use Rattle.edges.specs.Choose.{choose, count, All}
-use Rattle.edges.specs.Uses.{Use, usesToEnd, usesOfFace, usesFrom, uses, lo, hi, onEdge, usesOn, facesOn}
+use Rattle.edges.specs.Uses.{Use, usesToEnd, usesOfFace, usesFrom, uses, nextIn, lo, hi, isEdge, onEdge, usesOn, facesOn}
 use Rattle.edges.proofs.Lists.{all-of, all-at, all-append, choose-append, choose-one}
-use Rattle.edges.proofs.Uses.{noUse, useAt, useIn, use-in, uses-face-long, nextIn, next-inside}
+use Rattle.edges.proofs.Uses.{noUse, useAt, useIn, use-in, uses-face-long, next-inside}
 
 abbrev pub hasEdge : ℕ → ℕ → List ℤ → Bool
 hasEdge a b r = ltb 0 (length (usesOn (usesOfFace 0 (vertices r)) a b))
@@ -24,14 +24,21 @@ pub and-true : (a b : Bool) → (a && b) ≡ true → (a ≡ true) × (b ≡ tru
 and-true true b e = (refl, e)
 and-true false b e = absurd (false≢true e)
 
--- what it says of a use to be one of an edge
+-- what it says of a pair, and of a use, to be an edge
+
+pub is-edge : (v w a b : ℕ) → isEdge v w a b ≡ true → (min v w ≡ min a b) × (max v w ≡ max a b)
+is-edge v w a b e =
+    let p = and-true (eqb (min v w) (min a b)) (eqb (max v w) (max a b)) e in
+    (eqb-true (min v w) (min a b) (p .0), eqb-true (max v w) (max a b) (p .1))
+
+pub edge-is : (v w a b : ℕ) → min v w ≡ min a b → max v w ≡ max a b → isEdge v w a b ≡ true
+edge-is v w a b p q = rw (eq-eqb (min v w) (min a b) p) (eq-eqb (max v w) (max a b) q)
+
 pub on-edge : (a b : ℕ) (u : Use) → onEdge a b u ≡ true → (lo u ≡ min a b) × (hi u ≡ max a b)
-on-edge a b u e =
-    let p = and-true (eqb (lo u) (min a b)) (eqb (hi u) (max a b)) e in
-    (eqb-true (lo u) (min a b) (p .0), eqb-true (hi u) (max a b) (p .1))
+on-edge a b u = is-edge (u .from) (u .to) a b
 
 pub edge-on : (a b : ℕ) (u : Use) → lo u ≡ min a b → hi u ≡ max a b → onEdge a b u ≡ true
-edge-on a b u p q = rw (eq-eqb (lo u) (min a b) p) (eq-eqb (hi u) (max a b) q)
+edge-on a b u = edge-is (u .from) (u .to) a b
 
 -- two pairs that are the same unordered pair and start differently are each the other turned round
 turned : (a b c d : ℕ) → min a b ≡ min c d → max a b ≡ max c d → (a ≡ c → ⊥) → (a ≡ d) × (b ≡ c)

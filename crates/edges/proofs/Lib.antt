@@ -9,3 +9,7 @@ pub mod Scatter
 pub mod Counting
 pub mod Chain
 pub mod Pairs
+pub mod Filling
+pub mod Walk
+pub mod Assembly
+pub mod Question

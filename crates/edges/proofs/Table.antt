@@ -49,11 +49,11 @@ nexts-long us = length-map us (λ (u : Use). u .next)
 vertices-long : (us : List Use) → length (vertexWords us) ≡ length us
 vertices-long us = length-map us (λ (u : Use). u .from)
 
-mates-long : (us : List Use) → length (mateWords us) ≡ length us
+pub mates-long : (us : List Use) → length (mateWords us) ≡ length us
 mates-long us = length-map us (λ (u : Use). mateWord (length us) (u .corner) (mateOf us u))
 
 -- the e-th mate word
-word-at : (l : List ℤ) (e : ℕ) → e < length (uses l) → getD (mateWords (uses l)) e 0 ≡ word l e
+pub word-at : (l : List ℤ) (e : ℕ) → e < length (uses l) → getD (mateWords (uses l)) e 0 ≡ word l e
 word-at l e h =
     getD-any (mateWords (uses l)) e 0 (mateWord (length (uses l)) (noUse .corner) (mateOf (uses l) noUse)) (rw (mates-long (uses l)) h) ∙
     List·getD-map (λ (u : Use). mateWord (length (uses l)) (u .corner) (mateOf (uses l) u)) (uses l) e noUse ∙

@@ -2,7 +2,7 @@
 -- that follows it in its face starts.
 --
 --   useAt l e       the use that starts at corner e of the list l
---   nextIn m i      the place that follows place i in a face of m corners
+--   useIn c vs i    the use at place i of the face with vertices vs, whose first corner is c
 use Prim.Native.Nat.{ℕ, zero, suc, _+_, _-_, _≤_, _<_}
 use mathlib.Core.Path.{_≡_, refl, sym, _∙_, ap}
 use mathlib.Core.Bool.{Bool, true, false, cond}
@@ -17,7 +17,7 @@ use lib.ListN.{length, getD, length-append, length-map, List·getD-append, List�
 use lib.Seq.{getD-append-add}
 use Rattle.list.specs.Faces.{isEnd, push, runs, corners, num, vertices}
 use Rattle.edges.specs.Choose.{upFrom}
-use Rattle.edges.specs.Uses.{Use, usesToEnd, usesOfFace, usesFrom, uses, cornersOf}
+use Rattle.edges.specs.Uses.{Use, usesToEnd, usesOfFace, usesFrom, uses, nextIn, cornersOf}
 use Rattle.edges.specs.Table.{vertexWords}
 use Rattle.edges.proofs.Lists.{upFrom-add, getD-upFrom, map-append}
 
@@ -99,9 +99,6 @@ from-at l e =
     sym (List·getD-map (λ (u : Use). u .from) (uses l) e noUse) ∙ ap (λ (xs : List ℕ). getD xs e 0) (from-corners l) ∙ List·getD-map num (corners l) e (pos 0)
 
 -- the uses of one face, by their places in it
-
-abbrev pub nextIn : ℕ → ℕ → ℕ
-nextIn m i = cond (eqb (suc i) m) 0 (suc i)
 
 abbrev pub useIn : ℕ → List ℕ → ℕ → Use
 useIn c vs i = record { corner = c + i; next = c + nextIn (length vs) i; from = getD vs i 0; to = getD vs (nextIn (length vs) i) 0 }
