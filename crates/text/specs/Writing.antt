@@ -1,6 +1,7 @@
 -- Writing a list as a text (document 01, "Text" and codes 1, 15).
 --
 --   width n            how many digits n has in shortest decimal
+--   widthWithin f n    the same, where f bounds how many are looked for
 --   lowDigits k n      the k lowest decimal digits of n, as bytes
 --   decimalText n      n in shortest decimal
 --   isNegative x       the entry x is below 0
@@ -30,7 +31,6 @@ use Rattle.text.specs.Bytes.{openByte, closeByte, minusByte, zeroByte}
 use Rattle.text.specs.Numbers.{greatest}
 use Rattle.text.specs.declared.WriteAnswer.{WriteAnswer}
 
--- f bounds how many digits are looked for
 abbrev pub widthWithin : ℕ → ℕ → ℕ
 widthWithin zero n = 1
 widthWithin (suc f) n = let r : ℕ = suc (widthWithin f (n / 10)) in cond (ltb n 10) 1 r

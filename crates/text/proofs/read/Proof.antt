@@ -64,10 +64,8 @@ look-requires c κs = search needs
 fill-requires : tie.Need-fill-requires
 fill-requires c κs =
     let u = c .before .before in
-    let s = u .before .before .before .before .skip in
     let a = u .before .before .before .before .before .before .args in
-    let k : u .look .result .entries ≤ length (a .list .now) =
-    rw (answer u) (read-fits (a .text .now) (s .result) (s .ensures) (head (u .before .before)) (length (a .list .now))) in
+    let k : u .look .result .entries ≤ length (a .list .now) = rw (answer u) (read-fits (a .text .now) (length (a .list .now))) in
     omega arith
 
 same-length : tie.Need-same-length
