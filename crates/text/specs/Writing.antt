@@ -27,7 +27,7 @@ use lib.Dec.{eqb, ltb}
 use borrow.Author.Tests.{lt-ltb, le-ltb, ltb-false}
 use Rattle.list.specs.Limits.{maxEntries}
 use Rattle.text.specs.Codes.{tooLong, noRoom}
-use Rattle.text.specs.Bytes.{openByte, closeByte, minusByte, zeroByte}
+use Rattle.text.specs.Bytes.{space, comma, openByte, closeByte, minusByte, zeroByte}
 use Rattle.text.specs.Numbers.{greatest}
 use Rattle.text.specs.declared.WriteAnswer.{WriteAnswer}
 
@@ -96,7 +96,7 @@ entryText x = cond (isNegative x) (minusByte ∷ decimalText (natAbs x)) (decima
 
 abbrev pub joint : List ℤ → List ℕ
 joint [] = []
-joint (x ∷ xs) = 44 ∷ 32 ∷ []
+joint (x ∷ xs) = comma ∷ space ∷ []
 
 abbrev pub itemText : List ℤ → List ℕ
 itemText [] = []
