@@ -1,0 +1,7 @@
+pub mod Codes
+pub mod Bytes
+pub mod Numbers
+pub mod Tokens
+pub mod Reading
+pub mod Writing
+pub mod Steps
