@@ -1,0 +1,56 @@
+// The C interface: each function hands its arguments on and writes the answer's numbers, in document 01's order, to the caller.
+// It stands on the crates whose functions it exports; nothing in this repository stands on it.
+ghost use mathlib.Core.Path.{_≡_};
+ghost use lib.ListN.{length};
+ghost use Rattle.list.specs.Check.{checkOf};
+ghost use Rattle.list.specs.Show.{spanOf};
+ghost use Rattle.text.specs.Reading.{readOf, readInto};
+ghost use Rattle.text.specs.Writing.{writeOf, writeInto};
+ghost use Rattle.brimclif.specs.Numbers.{checkNumbers, spanNumbers, readNumbers, writeNumbers};
+
+// Whether the list is valid with n vertices: code, place, faces, corners.
+// Refused by 1 to 5.
+#[no_mangle]
+pub extern "C" fn brimclif_check(list: &[i32], n: u64, answer: &mut [u64; 4])
+    ensures { λ _. ⌜ now (answer .exit) ≡ checkNumbers (checkOf (now (list .entry)) n) ⌝ }
+{
+    let r = list::check(list, n as usize);
+    *answer = [
+        r.code as u64,
+        r.place as u64,
+        r.faces as u64,
+        r.corners as u64,
+    ];
+}
+
+// Where face k of the list starts and ends, without its -1; 0 and 0 where there is no face k.
+// It refuses nothing.
+#[no_mangle]
+pub extern "C" fn brimclif_face(list: &[i32], k: u64, span: &mut [u64; 2])
+    ensures { λ _. ⌜ now (span .exit) ≡ spanNumbers (spanOf (now (list .entry)) k) ⌝ }
+{
+    let r = list::face_span(list, k as usize);
+    *span = [r.start as u64, r.end as u64];
+}
+
+// Reads the text into the start of the list: code, place, entries read.
+// Refused by 11 to 13; a refusal writes no entry.
+#[no_mangle]
+pub extern "C" fn brimclif_read(text: &[u8], list: &mut [i32], answer: &mut [u64; 3])
+    ensures { λ _. ⌜ now (answer .exit) ≡ readNumbers (readOf (now (text .entry)) (length (now (list .entry)))) ⌝ }
+    ensures { λ _. ⌜ now (list .exit) ≡ readInto (now (text .entry)) (now (list .entry)) ⌝ }
+{
+    let r = text::read(text, list);
+    *answer = [r.code as u64, r.place as u64, r.entries as u64];
+}
+
+// Writes the list's text to the start of the buffer: code, place, the text's length.
+// Refused by 1 and 15; a refusal writes no byte.
+#[no_mangle]
+pub extern "C" fn brimclif_write(list: &[i32], text: &mut [u8], answer: &mut [u64; 3])
+    ensures { λ _. ⌜ now (answer .exit) ≡ writeNumbers (writeOf (now (list .entry)) (length (now (text .entry)))) ⌝ }
+    ensures { λ _. ⌜ now (text .exit) ≡ writeInto (now (list .entry)) (now (text .entry)) ⌝ }
+{
+    let r = text::write(list, text);
+    *answer = [r.code as u64, r.place as u64, r.length as u64];
+}
