@@ -1,3 +1,5 @@
 pub mod Choose
 pub mod Uses
 pub mod Table
+pub mod Sort
+pub mod Runs

@@ -6,8 +6,8 @@
 --   isIndex n z          z is an index: from 0 to n-1
 --   edgeOf l n a b       the answer to the edge question
 use Prim.Native.Nat.{ℕ}
-use mathlib.Core.List.{List, [], _∷_, _++_, map}
-use mathlib.Core.Bool.{Bool, true, false, cond, not, _&&_}
+use mathlib.Core.List.{List, _++_, map}
+use mathlib.Core.Bool.{Bool, false, cond, not, _&&_}
 use lib.Dec.{ltb, eqb}
 use lib.IntN.{ℤ, pos, negsuc}
 use lib.ListN.{length, replicate}

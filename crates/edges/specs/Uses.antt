@@ -3,7 +3,9 @@
 --   Use                one use of an edge by a face: the corner where it starts, the next corner of the face (after the last
 --                      the first), and the vertices of the two. It runs from the one to the other
 --   uses l             the uses of the list l: one for each corner, in the order of the corners
+--   nextIn m i         the place that follows place i in a face of m corners: after the last the first
 --   lo u, hi u         the edge of the use u, an unordered pair: its lower and its higher vertex
+--   isEdge v w a b     the edge between v and w is the one between a and b
 --   onEdge a b u       u is a use of the edge between a and b, whichever way it runs
 --   usesOn us a b      the uses of that edge
 --   facesOn l a b      the number of faces on that edge; 0 where it is no edge
@@ -11,9 +13,9 @@
 --   Mate               what a use meets across its edge: alone (no other face), the other use's corner, or many
 --   mateOf us u        the mate of the use u
 --   singularEdges l    the number of edges of l with three or more faces
-use Prim.Native.Nat.{ℕ, zero, suc, _+_, min, max}
+use Prim.Native.Nat.{ℕ, suc, _+_, min, max}
 use mathlib.Core.List.{List, [], _∷_, _++_, map}
-use mathlib.Core.Bool.{Bool, true, false, cond, _&&_}
+use mathlib.Core.Bool.{Bool, false, cond, _&&_}
 use lib.Dec.{leb, eqb}
 use lib.IntN.{ℤ}
 use lib.ListN.{length}
@@ -43,14 +45,20 @@ usesFrom c (r ∷ rs) = usesOfFace c (vertices r) ++ usesFrom (c + length r) rs
 abbrev pub uses : List ℤ → List Use
 uses l = usesFrom 0 (runs l)
 
+abbrev pub nextIn : ℕ → ℕ → ℕ
+nextIn m i = cond (eqb (suc i) m) 0 (suc i)
+
 abbrev pub lo : Use → ℕ
 lo u = min (u .from) (u .to)
 
 abbrev pub hi : Use → ℕ
 hi u = max (u .from) (u .to)
 
+abbrev pub isEdge : ℕ → ℕ → ℕ → ℕ → Bool
+isEdge v w a b = eqb (min v w) (min a b) && eqb (max v w) (max a b)
+
 abbrev pub onEdge : ℕ → ℕ → Use → Bool
-onEdge a b u = eqb (lo u) (min a b) && eqb (hi u) (max a b)
+onEdge a b u = isEdge (u .from) (u .to) a b
 
 abbrev pub usesOn : List Use → ℕ → ℕ → List Use
 usesOn us a b = choose (onEdge a b) us

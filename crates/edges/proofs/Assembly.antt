@@ -1,0 +1,150 @@
+-- The table's parts put together: keys tell edges apart, so corners of one key share an edge, and the four blocks are the table.
+use Prim.Native.Nat.{ℕ, _+_, _*_, _≤_, _<_}
+use mathlib.Core.Path.{_≡_, refl, sym, _∙_, ap, ap₂}
+use mathlib.Core.Bool.{Bool, true, false, false≢true}
+use mathlib.Core.List.{List, [], _∷_, _++_, map}
+use mathlib.Core.Logic.{inl}
+use native.Mathlib.Omega.{arith}
+use native.Mathlib.Nat.{zero-add}
+use borrow.Author.Tests.{eq-eqb, ne-eqb}
+use lib.Dec.{eqb}
+use lib.IntN.{ℤ}
+use lib.ListN.{length, getD, replicate, length-map, List·getD-map}
+use lib.Seq.{take-all, ext-getD}
+use Rattle.list.specs.Limits.{maxEntries, maxVertices}
+use Rattle.list.specs.Check.{Valid}
+use Rattle.edges.specs.Choose.{choose, count, All, upFrom}
+use Rattle.edges.specs.Uses.{Use, uses, hi, onEdge, mateAmong, startsMany, startsSingular, singularEdges}
+use Rattle.edges.specs.Table.{nextWords, vertexWords, mateWord, mateWords, tableOf}
+use Rattle.edges.specs.Sort.{keyOf, part, Kept, digitIs, Sorted, Arranged, keyAt, Ordered}
+use Rattle.edges.specs.Runs.{sameKey, wordBy, startsBy, MateReady, RightAt}
+use Rattle.edges.proofs.Lists.{all-in, all-map, choose-same, choose-map, upFrom-in, from-table}
+use Rattle.edges.proofs.Uses.{noUse, useAt, corner-at}
+use Rattle.edges.proofs.Faces.{on-edge, edge-on, use-proper}
+use Rattle.edges.proofs.Mates.{sharing, sharing-is, mate-is, word}
+use Rattle.edges.proofs.Table.{mates-long, word-at}
+use Rattle.edges.proofs.Parts.{length-part, getD-part, part-same, part-add, kept-part}
+
+-- keys tell edges apart
+key-edge : (u v : Use) → hi u < maxVertices → hi v < maxVertices → eqb (keyOf u) (keyOf v) ≡ onEdge (v .from) (v .to) u
+key-edge u v h k = go (onEdge (v .from) (v .to) u) refl
+  where
+    go : (b : Bool) → onEdge (v .from) (v .to) u ≡ b → eqb (keyOf u) (keyOf v) ≡ b
+    go true e = let p = on-edge (v .from) (v .to) u e in eq-eqb (keyOf u) (keyOf v) (omega (arith, p .0, p .1))
+    go false e =
+        ne-eqb (keyOf u) (keyOf v)
+        (λ q. false≢true (sym e ∙ edge-on (v .from) (v .to) u (omega arith) (omega arith)))
+
+module _ (l : List ℤ) (n : ℕ) (v : Valid l n) where
+  abbrev ks : List ℕ
+  ks = map keyOf (uses l)
+
+  hi-in : (e : ℕ) → e < length (uses l) → hi (useAt l e) < maxVertices
+  hi-in e h = let p = use-proper l n v e h in omega (arith, p .from-in, p .to-in, v .few-vertices)
+
+  key-at : (e : ℕ) → keyAt ks e ≡ keyOf (useAt l e)
+  key-at e = List·getD-map keyOf (uses l) e noUse
+
+  -- the corners with a corner's key are those that share its edge
+  key-shares : (e : ℕ) → e < length (uses l) → sameKey ks e ≡ sharing l (useAt l e .from) (useAt l e .to)
+  key-shares e h =
+      rw (length-map (uses l) keyOf)
+      (choose-same (digitIs (keyAt ks) (keyAt ks e)) (λ (f : ℕ). onEdge (useAt l e .from) (useAt l e .to) (useAt l f)) (upFrom 0 (length (uses l)))
+      (all-in (λ (f : ℕ). digitIs (keyAt ks) (keyAt ks e) f ≡ onEdge (useAt l e .from) (useAt l e .to) (useAt l f)) (upFrom 0 (length (uses l)))
+      (λ f i.
+      let q : f < length (uses l) = omega (arith, upFrom-in 0 (length (uses l)) f i) in
+      ap₂ eqb (key-at f) (key-at e) ∙ key-edge (useAt l f) (useAt l e) (hi-in f q) (hi-in e h))))
+
+  pub key-word-is : (e : ℕ) → e < length (uses l) → wordBy ks e ≡ word l e
+  key-word-is e h = ap₂ (λ (c : ℕ) (xs : List ℕ). mateWord c e (mateAmong e xs)) (length-map (uses l) keyOf) (key-shares e h) ∙ ap (mateWord (length (uses l)) e) (sym (mate-is l e h))
+
+  key-starts : (e : ℕ) → e < length (uses l) → startsBy ks e ≡ startsSingular (uses l) (useAt l e)
+  key-starts e h = ap (startsMany e) (key-shares e h ∙ sym (sharing-is l (useAt l e .from) (useAt l e .to))) ∙ rw (corner-at l e h)
+
+  pub key-singular : count (startsBy ks) (upFrom 0 (length (uses l))) ≡ singularEdges l
+  key-singular =
+      ap length
+      (choose-same (startsBy ks) (λ (e : ℕ). startsSingular (uses l) (useAt l e)) (upFrom 0 (length (uses l)))
+      (all-in (λ (e : ℕ). startsBy ks e ≡ startsSingular (uses l) (useAt l e)) (upFrom 0 (length (uses l))) (λ e i. key-starts e (omega (arith, upFrom-in 0 (length (uses l)) e i))))) ∙
+      sym (length-map (choose (λ (e : ℕ). startsSingular (uses l) (useAt l e)) (upFrom 0 (length (uses l)))) (useAt l)) ∙
+      ap length (sym (choose-map (startsSingular (uses l)) (useAt l) (upFrom 0 (length (uses l))))) ∙
+      ap (λ (us : List Use). length (choose (startsSingular (uses l)) us)) (from-table noUse (uses l))
+
+-- keys that agree on the corners serve alike
+
+all-both : (P Q : ℕ → Type 0) (xs : List ℕ) → All P xs → All Q xs → All (λ (x : ℕ). P x × Q x) xs
+all-both P Q [] a b = tt
+all-both P Q (x ∷ xs) a b = ((a .0, b .0), all-both P Q xs (a .1) (b .1))
+
+module _ (c : ℕ) (f g : ℕ → ℕ) (h : (e : ℕ) → e < c → f e ≡ g e) where
+  sorted-same : (xs : List ℕ) → All (λ (e : ℕ). e < c) xs → Sorted f xs → Sorted g xs
+  sorted-same [] a s = tt
+  sorted-same (x ∷ xs) a s = (
+    all-map (λ (y : ℕ). (y < c) × (f x ≤ f y)) (λ (y : ℕ). g x ≤ g y) xs (λ y p. omega (arith, h x (a .0), h y (p .0), p .1)) (all-both (λ (y : ℕ). y < c) (λ (y : ℕ). f x ≤ f y) xs (a .1) (s .0)),
+    sorted-same xs (a .1) (s .1),
+  )
+
+  digits-same : (k : ℕ) (xs : List ℕ) → All (λ (e : ℕ). e < c) xs → choose (digitIs f k) xs ≡ choose (digitIs g k) xs
+  digits-same k xs a = choose-same (digitIs f k) (digitIs g k) xs (all-map (λ (e : ℕ). e < c) (λ (e : ℕ). digitIs f k e ≡ digitIs g k e) xs (λ e q. rw (h e q)) a)
+
+  arranged-same : (xs : List ℕ) → Arranged c f f xs → Arranged c g g xs
+  arranged-same xs a =
+      let row = all-in (λ (e : ℕ). e < c) (upFrom 0 c) (λ e i. omega (arith, upFrom-in 0 c e i)) in
+      record {
+        order = a .order;
+        stable = λ k. sym (digits-same k xs (a .order .inside)) ∙ a .stable k ∙ digits-same k (upFrom 0 c) row;
+        sorted = sorted-same xs (a .order .inside) (a .sorted);
+      }
+
+-- an order by keys is ready for the mates
+pub ordered-ready : (c : ℕ) (w w′ : List ℕ) → c ≤ maxEntries → length w ≡ 4 * c → Ordered c w w′ → MateReady c w′
+ordered-ready c w w′ few long o =
+    record {
+      few = few;
+      long = o .long ∙ long;
+      arranged = arranged-same c (keyAt w) (keyAt (part 0 c w′)) (λ e h. sym (getD-part 0 c w′ e h ∙ rw zero-add (o .keys e h))) (part c c w′) (o .arranged);
+    }
+
+four-parts : (c : ℕ) (w : List ℕ) → length w ≡ 4 * c → w ≡ part 0 c w ++ part c c w ++ part (2 * c) c w ++ part (3 * c) c w
+four-parts c w h =
+    let e₂ : 2 * c ≡ c + c = omega arith in
+    let e₃ : 3 * c ≡ 2 * c + c = omega arith in
+    let e₄ : 4 * c ≡ 3 * c + c = omega arith in
+    let two : part 0 (2 * c) w ≡ part 0 c w ++ part c c w = rw e₂ (part-add 0 c c w ∙ rw zero-add) in
+    let three : part 0 (3 * c) w ≡ part 0 (2 * c) w ++ part (2 * c) c w = rw e₃ (part-add 0 (2 * c) c w ∙ rw zero-add) in
+    let four : part 0 (4 * c) w ≡ part 0 (3 * c) w ++ part (3 * c) c w = rw e₄ (part-add 0 (3 * c) c w ∙ rw zero-add) in
+    sym (take-all (4 * c) w (omega arith)) ∙ four ∙ rw (three, two)
+
+-- the four blocks are the table: w₁ has the keys, w₂ the order too, w₃ the mates, w₄ the next corners and the vertices, w₅ the zeros
+module _ (l : List ℤ) (n c : ℕ) (v : Valid l n) (u : length (uses l) ≡ c) (w₁ w₂ w₃ w₄ w₅ : List ℕ)
+    (long : length w₁ ≡ 4 * c)
+    (keys : part 0 c w₁ ≡ map keyOf (uses l))
+    (ordered : Ordered c w₁ w₂)
+    (right : (e : ℕ) → e < c → RightAt c (part 0 c w₂) w₃ e)
+    (kept₃ : Kept (2 * c) c w₂ w₃)
+  where
+    keys₂ : part 0 c w₂ ≡ map keyOf (uses l)
+    keys₂ = part-same 0 0 c w₂ w₁ (omega (arith, ordered .long)) (omega arith) (λ e h. rw zero-add (ordered .keys e h)) ∙ keys
+
+    pub table-singular : (r : ℕ) → r ≡ count (startsBy (part 0 c w₂)) (upFrom 0 c) → r ≡ singularEdges l
+    table-singular r e = e ∙ rw (keys₂, ← u) (key-singular l n v)
+
+    module _ (nexts : part 0 c w₄ ≡ nextWords (uses l)) (vertices : part c c w₄ ≡ vertexWords (uses l)) (kept₄ : Kept 0 (2 * c) w₃ w₄) (zeros : part (3 * c) c w₅ ≡ replicate c 0) (kept₅ : Kept (3 * c) c w₄ w₅) where
+      long₅ : length w₅ ≡ 4 * c
+      long₅ = kept₅ .long ∙ kept₄ .long ∙ kept₃ .long ∙ ordered .long ∙ long
+
+      mate₅ : (e : ℕ) → e < c → getD w₅ (2 * c + e) 0 ≡ getD (mateWords (uses l)) e 0
+      mate₅ e h =
+          kept₅ .low (2 * c + e) (omega arith) ∙ kept₄ .high (2 * c + e) (omega arith) ∙ right e h ∙
+          rw keys₂ (key-word-is l n v e (rw u h)) ∙ sym (word-at l e (rw u h))
+
+      mates : part (2 * c) c w₅ ≡ mateWords (uses l)
+      mates =
+          ext-getD 0 (part (2 * c) c w₅) (mateWords (uses l)) (length-part (2 * c) c w₅ (omega (arith, long₅)) ∙ sym (mates-long (uses l) ∙ u))
+          (λ e q. let h : e < c = rw (length-part (2 * c) c w₅ (omega (arith, long₅))) at q in getD-part (2 * c) c w₅ e h ∙ mate₅ e h)
+
+      pub table-is : w₅ ≡ tableOf l
+      unfolding tableOf
+      table-is =
+          four-parts c w₅ long₅ ∙
+          rw (kept-part (3 * c) c 0 c w₄ w₅ (inl (omega arith)) (omega (arith, long₅, kept₅ .long)) kept₅ ∙ nexts, kept-part (3 * c) c c c w₄ w₅ (inl (omega arith)) (omega (arith, long₅, kept₅ .long)) kept₅ ∙ vertices, mates, zeros, u)

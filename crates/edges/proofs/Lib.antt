@@ -1,0 +1,15 @@
+pub mod Lists
+pub mod Uses
+pub mod Faces
+pub mod Mates
+pub mod Table
+pub mod Parts
+pub mod Blocks
+pub mod Scatter
+pub mod Counting
+pub mod Chain
+pub mod Pairs
+pub mod Filling
+pub mod Walk
+pub mod Assembly
+pub mod Question
