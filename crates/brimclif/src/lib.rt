@@ -6,7 +6,8 @@ ghost use Rattle.list.specs.Check.{checkOf};
 ghost use Rattle.list.specs.Show.{spanOf};
 ghost use Rattle.text.specs.Reading.{readOf, readInto};
 ghost use Rattle.text.specs.Writing.{writeOf, writeInto};
-ghost use Rattle.brimclif.specs.Numbers.{checkNumbers, spanNumbers, readNumbers, writeNumbers};
+ghost use Rattle.edges.specs.Table.{edgeOf};
+ghost use Rattle.brimclif.specs.Numbers.{checkNumbers, edgeNumbers, readNumbers, writeNumbers, spanNumbers};
 
 // Whether the list is valid with n vertices: code, place, faces, corners.
 // Refused by 1 to 5.
@@ -23,14 +24,14 @@ pub extern "C" fn brimclif_check(list: &[i32], n: u64, answer: &mut [u64; 4])
     ];
 }
 
-// Where face k of the list starts and ends, without its -1; 0 and 0 where there is no face k.
-// It refuses nothing.
+// How many faces lie on the edge between a and b: code, place, faces.
+// Refused by 1 to 5 and 10.
 #[no_mangle]
-pub extern "C" fn brimclif_face(list: &[i32], k: u64, span: &mut [u64; 2])
-    ensures { λ _. ⌜ now (span .exit) ≡ spanNumbers (spanOf (now (list .entry)) k) ⌝ }
+pub extern "C" fn brimclif_edge(list: &[i32], n: u64, a: i32, b: i32, answer: &mut [u64; 3])
+    ensures { λ _. ⌜ now (answer .exit) ≡ edgeNumbers (edgeOf (now (list .entry)) n a b) ⌝ }
 {
-    let r = list::face_span(list, k as usize);
-    *span = [r.start as u64, r.end as u64];
+    let r = edges::faces_on(list, n as usize, a, b);
+    *answer = [r.code as u64, r.place as u64, r.faces as u64];
 }
 
 // Reads the text into the start of the list: code, place, entries read.
@@ -53,4 +54,14 @@ pub extern "C" fn brimclif_write(list: &[i32], text: &mut [u8], answer: &mut [u6
 {
     let r = text::write(list, text);
     *answer = [r.code as u64, r.place as u64, r.length as u64];
+}
+
+// Where face k of the list starts and ends, without its -1; 0 and 0 where there is no face k.
+// It refuses nothing.
+#[no_mangle]
+pub extern "C" fn brimclif_face(list: &[i32], k: u64, span: &mut [u64; 2])
+    ensures { λ _. ⌜ now (span .exit) ≡ spanNumbers (spanOf (now (list .entry)) k) ⌝ }
+{
+    let r = list::face_span(list, k as usize);
+    *span = [r.start as u64, r.end as u64];
 }
