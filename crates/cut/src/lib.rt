@@ -1,5 +1,28 @@
 // The global cut with its map, and the classes of the vertices. It stands on `edges` and cites its contracts only; the program
 // and the layers of later requests stand on it.
+ghost use mathlib.Core.Path.{_≡_};
+ghost use Prim.Native.Nat.{_*_, _≤_};
+ghost use lib.ListN.{length, replicate};
+ghost use Rattle.list.specs.Faces.{corners};
+ghost use Rattle.list.specs.Check.{Valid};
+ghost use Rattle.edges.specs.Uses.{singularEdges};
+ghost use Rattle.cut.specs.Classes.{classesOf};
+ghost use Rattle.cut.specs.Cut.{
+  cutRefused,
+  cutOf,
+  cutList,
+  cutMap,
+  cutWork,
+  classesAnswer,
+  classesBytes,
+  classesWork,
+};
+ghost use Rattle.cut.specs.Forest.{Grouped, CutMade};
+
+mod groups;
+mod marks;
+mod renumber;
+mod work;
 
 // The cut's answer.
 pub struct CutAnswer {
@@ -16,4 +39,142 @@ pub struct CutAnswer {
 pub struct ClassesAnswer {
     pub code: u32,
     pub place: usize,
+}
+
+// The numbers that the cut of a valid list counts.
+struct Counts {
+    vertices: usize,
+    singular_edges: usize,
+    singular_vertices: usize,
+}
+
+// The classes of the vertices 0 to n-1, a byte each at the start of `classes`, and code 0. Refuses what the check refuses, a
+// class buffer shorter than n by 8 and work shorter than four words a corner by 9; then nothing is written.
+pub fn classes(list: &[i32], n: usize, classes: &mut [u8], work: &mut [u32]) -> ClassesAnswer
+    ensures answer { λ r. ⌜ r ≡ classesAnswer (now (list .entry)) n (length (now (classes .entry))) (length (now (work .entry))) ⌝ }
+    ensures bytes { λ _. ⌜ now (classes .exit) ≡ classesBytes (now (list .entry)) n (now (classes .entry)) (now (work .entry)) ⌝ }
+    ensures cleared { λ _. ⌜ now (work .exit) ≡ classesWork (now (list .entry)) n (now (classes .entry)) (now (work .entry)) ⌝ }
+{
+    let checked = list::check(list, n);
+    let code = checked.code;
+    if code != 0 {
+        return ClassesAnswer {
+            code,
+            place: checked.place,
+        };
+    }
+    if classes.len() < n {
+        return ClassesAnswer { code: 8, place: n };
+    }
+    let c = checked.corners;
+    let words = 4 * c;
+    if work.len() < words {
+        return ClassesAnswer {
+            code: 9,
+            place: words,
+        };
+    }
+    class_list(list, n, c, &mut classes[..n], &mut work[..words]);
+    ClassesAnswer { code: 0, place: 0 }
+}
+
+// The edge table of a valid list in the work buffer, with the parents of its groups behind it, and the number of singular edges.
+fn group_list(list: &[i32], n: usize, c: usize, work: &mut [u32]) -> usize
+    requires { ⌜ Valid (now list) n × (c ≡ length (corners (now list))) × (length (now work) ≡ 4 * c) ⌝ }
+    ensures { λ r. ⌜ Grouped (now (list .entry)) c (now (work .exit)) × (r ≡ singularEdges (now (list .entry))) ⌝ }
+{
+    let singular = edges::edge_table(list, n, work);
+    groups::group(work, c);
+    singular
+}
+
+// The classes of a valid list in marks for its n vertices; the work is cleared.
+fn class_list(list: &[i32], n: usize, c: usize, marks: &mut [u8], work: &mut [u32])
+    requires { ⌜ Valid (now list) n × (c ≡ length (corners (now list))) × (length (now marks) ≡ n) × (length (now work) ≡ 4 * c) ⌝ }
+    ensures { λ _. ⌜ (now (marks .exit) ≡ classesOf (now (list .entry)) n) × (now (work .exit) ≡ replicate (4 * c) 0) ⌝ }
+{
+    group_list(list, n, c, work);
+    marks::mark(work, c, marks);
+    work::clear(work);
+}
+
+// The global cut: the new list, the map, and the seven numbers. Refuses what the check refuses, a new list buffer shorter than
+// the list by 6, a map shorter than the corner count by 7 and work shorter than four words a corner by 9; then nothing is written.
+pub fn cut(
+    list: &[i32],
+    n: usize,
+    new_list: &mut [i32],
+    map: &mut [i32],
+    work: &mut [u32],
+) -> CutAnswer
+    ensures answer { λ r. ⌜ r ≡ cutOf (now (list .entry)) n (length (now («new_list» .entry))) (length (now (map .entry))) (length (now (work .entry))) ⌝ }
+    ensures filled { λ _. ⌜ now («new_list» .exit) ≡ cutList (now (list .entry)) n (now («new_list» .entry)) (now (map .entry)) (now (work .entry)) ⌝ }
+    ensures mapped { λ _. ⌜ now (map .exit) ≡ cutMap (now (list .entry)) n (now («new_list» .entry)) (now (map .entry)) (now (work .entry)) ⌝ }
+    ensures cleared { λ _. ⌜ now (work .exit) ≡ cutWork (now (list .entry)) n (now («new_list» .entry)) (now (map .entry)) (now (work .entry)) ⌝ }
+{
+    let checked = list::check(list, n);
+    let code = checked.code;
+    if code != 0 {
+        return refusal(code, checked.place);
+    }
+    let size = list.len();
+    let c = checked.corners;
+    if new_list.len() < size {
+        return refusal(6, size);
+    }
+    if map.len() < c {
+        return refusal(7, c);
+    }
+    let words = 4 * c;
+    if work.len() < words {
+        return refusal(9, words);
+    }
+    let counts = cut_list(list, n, c, &mut new_list[..size], map, &mut work[..words]);
+    CutAnswer {
+        code: 0,
+        place: 0,
+        faces: checked.faces,
+        corners: c,
+        vertices: counts.vertices,
+        singular_edges: counts.singular_edges,
+        singular_vertices: counts.singular_vertices,
+    }
+}
+
+// The cut's answer where it refuses: the counts are 0.
+fn refusal(code: u32, place: usize) -> CutAnswer
+    ensures { λ r. ⌜ r ≡ cutRefused code place ⌝ }
+{
+    CutAnswer {
+        code,
+        place,
+        faces: 0,
+        corners: 0,
+        vertices: 0,
+        singular_edges: 0,
+        singular_vertices: 0,
+    }
+}
+
+// The cut of a valid list in buffers that are long enough; the work is cleared.
+fn cut_list(
+    list: &[i32],
+    n: usize,
+    c: usize,
+    new_list: &mut [i32],
+    map: &mut [i32],
+    work: &mut [u32],
+) -> Counts
+    requires { ⌜ Valid (now list) n × (c ≡ length (corners (now list))) × (length (now «new_list») ≡ length (now list)) × (c ≤ length (now map)) × (length (now work) ≡ 4 * c) ⌝ }
+    ensures { λ r. ⌜ CutMade (now (list .entry)) n c (r .vertices) (r .«singular_edges») (r .«singular_vertices») (now («new_list» .exit)) (now (map .entry)) (now (map .exit)) (now (work .exit)) ⌝ }
+{
+    let singular_edges = group_list(list, n, c, work);
+    let singular_vertices = marks::singular_vertices(work, c, n);
+    let vertices = renumber::renumber(list, work, c, new_list, map);
+    work::clear(work);
+    Counts {
+        vertices,
+        singular_edges,
+        singular_vertices,
+    }
 }

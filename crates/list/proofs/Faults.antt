@@ -9,7 +9,8 @@ use lib.Dec.{ltb}
 use lib.IntN.{ℤ, pos, negsuc}
 use lib.ListN.{length, getD, replicate}
 use Rattle.list.specs.Faces.{firstWhere, num, vertices}
-use Rattle.list.specs.Check.{outside, firstOutside, firstRepeat, faceFault, placeIn}
+use Rattle.list.specs.Check.{outside, firstOutside, firstRepeat, faceFault}
+use Rattle.list.specs.declared.FaceFault.{FaceFault}
 use Rattle.list.specs.declared.FaceFault.the-variants as Fault·
 use Rattle.list.specs.Flags.{Clear}
 use Rattle.list.proofs.First.{first-fits, first-none}
@@ -48,7 +49,14 @@ inside-clear n r fs h room some z =
       room = λ j p. rw vertex-of (num-below n (length fs) (getD r j (pos 0)) room some (first-none (outside n) r h j (rw vertices-long at p)));
     }
 
--- the place of a fault is within the face or at its end
+-- the place of a fault, counted from where the face starts
+abbrev pub placeIn : FaceFault → ℕ
+placeIn Fault·.Sound = 0
+placeIn (Fault·.Outside i) = i
+placeIn Fault·.Short = 0
+placeIn (Fault·.Repeated i) = i
+
+-- it is within the face or at its end
 pub fault-fits : (n : ℕ) (r : List ℤ) → placeIn (faceFault n r) ≤ length r
 unfolding faceFault
 fault-fits n r =

@@ -5,8 +5,8 @@
 --   elem v vs           the vertex v is one of vs
 --   firstRepeat vs      the place of the first vertex equal to an earlier one of vs; vs's length if there is none
 --   faceFault n r       the first fault of the face r, in the order of the codes
---   codeOf, placeIn     the code of a fault, and its place counted from where the face starts
 --   refused, accepted   the check's answer
+--   byFault s f rest    the code and place of the fault f of a face that starts at s; a sound face hands on to the rest
 --   checkOf l n         the check's answer for the list l and the vertex count n
 --   ValidFace, Valid    the validity of a face and of a list
 use Prim.Native.Nat.{ℕ, zero, suc, _+_, _≤_, _<_}
@@ -50,25 +50,12 @@ faceFault n r =
     Fault·.Short
     (cond (ltb (firstRepeat (vertices r)) (length r)) (Fault·.Repeated (firstRepeat (vertices r))) Fault·.Sound))
 
-abbrev pub codeOf : FaceFault → ℕ
-codeOf Fault·.Sound = 0
-codeOf (Fault·.Outside i) = 3
-codeOf Fault·.Short = 4
-codeOf (Fault·.Repeated i) = 5
-
-abbrev pub placeIn : FaceFault → ℕ
-placeIn Fault·.Sound = 0
-placeIn (Fault·.Outside i) = i
-placeIn Fault·.Short = 0
-placeIn (Fault·.Repeated i) = i
-
 abbrev pub refused : ℕ → ℕ → CheckAnswer
 refused code place = record { code = code; place = place; faces = 0; corners = 0 }
 
 abbrev pub accepted : ℕ → ℕ → CheckAnswer
 accepted faces corners = record { code = 0; place = 0; faces = faces; corners = corners }
 
--- a sound face hands on to the rest, a fault of the face that starts at s refuses
 abbrev pub byFault : ℕ → FaceFault → CheckAnswer → CheckAnswer
 byFault s Fault·.Sound rest = rest
 byFault s (Fault·.Outside i) rest = refused 3 (s + i)

@@ -6,8 +6,9 @@ ghost use Rattle.list.specs.Check.{elem, firstOutside, firstRepeat, face
 ghost use Rattle.list.specs.Flags.{Flags, Clear, Marked, marked, seenTo};
 use crate::FaceFault;
 
-// A face of up to this many corners is tested for repeats entry by entry; a longer one in one pass over the flags.
-const SHORT_FACE: usize = 100;
+// A face of up to this many corners is tested for repeats entry by entry; a longer one in one pass over the flags, which from
+// here on is faster.
+const SHORT_FACE: usize = 5;
 
 // The place in the face of its first entry below -1 or at least n; the face's length if there is none.
 pub fn first_outside(face: &[i32], n: usize) -> usize

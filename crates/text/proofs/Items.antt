@@ -1,18 +1,17 @@
 -- What stands at a place of a text, as the reader finds it by looking at one byte, and what that says of the things of the text.
-use mathlib.Core.Path.{_≡_, refl, ap, sym, subst, _∙_}
-use mathlib.Core.Logic.{⊎-elim}
-use Prim.Native.Nat.{ℕ, zero, suc, _+_, _≤_, _<_}
-use native.Mathlib.Nat.{le-refl}
+use mathlib.Core.Path.{_≡_, refl, ap, sym, _∙_}
+use Prim.Native.Nat.{ℕ, suc, _+_, _≤_, _<_}
 use native.Mathlib.Decide.{decLt, ℕ-discrete}
 use native.Mathlib.Omega.{arith}
 use mathlib.Core.List.{List, [], _∷_}
 use mathlib.Core.Bool.{Bool, true, false, cond}
 use mathlib.Core.Option.{Option, none, some}
 use lib.IntN.{ℤ}
-use lib.Dec.{eqb, ltb, leb}
+use lib.Dec.{ltb, leb}
 use lib.ListN.{length, drop, getD}
 use lib.Seq.{drop-cons}
-use borrow.Author.Tests.{ne-eqb, eq-eqb, lt-ltb, le-ltb}
+use borrow.Author.Tests.{ne-eqb, eq-eqb}
+use Rattle.text.proofs.Bools.{clash}
 use Rattle.text.specs.Bytes.{openByte, closeByte, inNumber}
 use Rattle.text.specs.Codes.{notOfTheForm, outOfRange, tooMany}
 use Rattle.text.specs.Numbers.{numberBytes, numberOf, numberAt, codeOf, placeOf, magnitudeOf, unsigned, isMinus, signed, greatest, ofMagnitude}
@@ -22,7 +21,6 @@ use Rattle.text.specs.Steps.{blank, itemOf, itemOfNumber}
 use Rattle.text.specs.declared.number.Number.{Number}
 use Rattle.text.specs.declared.number.Number.the-variants.{Value, Refused}
 use Rattle.text.specs.declared.ReadAnswer.{ReadAnswer}
-use Rattle.text.specs.declared.reader.Item.{Item}
 use Rattle.text.specs.declared.reader.Item.the-variants.{Entry, Closed, Fault}
 use Rattle.text.proofs.Runs.{run-within}
 use Rattle.text.proofs.Lexing.{skip-tokens, skip-end, skip-byte, skip-token, in-number, number-tokens}
@@ -117,10 +115,10 @@ number-next p e bs v nx h = byMagnitude (magnitudeOf (unsigned bs)) h
   where
     byRange : (m : ℕ) (r : Bool) → cond r (Value (signed (isMinus bs) m) e) (Refused outOfRange p) ≡ Value v nx → nx ≡ e
     byRange m true k = cc
-    byRange m false k = let z : _≡_ {A = ℕ} 0 1 = cc in absurd (omega arith)
+    byRange m false k = clash (cc)
 
     byMagnitude : (o : Option ℕ) → ofMagnitude p e (isMinus bs) o ≡ Value v nx → nx ≡ e
-    byMagnitude none k = let z : _≡_ {A = ℕ} 0 1 = cc in absurd (omega arith)
+    byMagnitude none k = clash (cc)
     byMagnitude (some m) k = byRange m (leb m (greatest (isMinus bs))) k
 
 pub record EntryAt (t : List ℕ) (i p : ℕ) (v : ℤ) (nx : ℕ) : Type 0 where
@@ -136,7 +134,7 @@ module _ (t : List ℕ) (i : ℕ) where
     where
       byNumber : (q : ℕ) (bs : List ℕ) → tokensAt t i ≡ number q bs ∷ tokensAt t (q + length bs) → i < q + length bs → q + length bs ≤ length t
           → (n : Number) → numberOf q (q + length bs) bs ≡ n → itemOfNumber q n ≡ Entry p v nx → EntryAt t i p v nx
-      byNumber q bs e l w (Refused c r) k j = let z : _≡_ {A = ℕ} 0 1 = cc in absurd (omega arith)
+      byNumber q bs e l w (Refused c r) k j = clash (cc)
       byNumber q bs e l w (Value u n) k j =
           let hp : q ≡ p = cc in
           let hv : u ≡ v = cc in
@@ -152,9 +150,9 @@ module _ (t : List ℕ) (i : ℕ) where
           })
 
       byView : View t i → EntryAt t i p v nx
-      byView (ended e) = let k : Fault notOfTheForm (length t) ≡ Entry p v nx = rw e at h in let z : _≡_ {A = ℕ} 0 1 = cc in absurd (omega arith)
-      byView (opens q e) = let k : Fault notOfTheForm q ≡ Entry p v nx = rw e at h in let z : _≡_ {A = ℕ} 0 1 = cc in absurd (omega arith)
-      byView (closes q e) = let k : Closed (suc q) ≡ Entry p v nx = rw e at h in let z : _≡_ {A = ℕ} 0 1 = cc in absurd (omega arith)
+      byView (ended e) = let k : Fault notOfTheForm (length t) ≡ Entry p v nx = rw e at h in clash (cc)
+      byView (opens q e) = let k : Fault notOfTheForm q ≡ Entry p v nx = rw e at h in clash (cc)
+      byView (closes q e) = let k : Closed (suc q) ≡ Entry p v nx = rw e at h in clash (cc)
       byView (counts q bs e l w) = byNumber q bs e l w (numberOf q (q + length bs) bs) refl (rw e at h)
 
   pub inside-entry : (m n p : ℕ) (v : ℤ) (nx : ℕ) → itemOf (length t) (tokensAt t i) ≡ Entry p v nx
@@ -168,12 +166,12 @@ module _ (t : List ℕ) (i : ℕ) where
   inside-closed m n nx h = byView (view t i)
     where
       byNumber : (q : ℕ) (x : Number) → itemOfNumber q x ≡ Closed nx → ⊥
-      byNumber q (Value v e) k = let z : _≡_ {A = ℕ} 0 1 = cc in omega arith
-      byNumber q (Refused c r) k = let z : _≡_ {A = ℕ} 0 1 = cc in omega arith
+      byNumber q (Value v e) k = clash (cc)
+      byNumber q (Refused c r) k = clash (cc)
 
       byView : View t i → inside (length t) m n (tokensAt t i) ≡ behind n (tokensAt t nx)
-      byView (ended e) = let k : Fault notOfTheForm (length t) ≡ Closed nx = rw e at h in let z : _≡_ {A = ℕ} 0 1 = cc in absurd (omega arith)
-      byView (opens q e) = let k : Fault notOfTheForm q ≡ Closed nx = rw e at h in let z : _≡_ {A = ℕ} 0 1 = cc in absurd (omega arith)
+      byView (ended e) = let k : Fault notOfTheForm (length t) ≡ Closed nx = rw e at h in clash (cc)
+      byView (opens q e) = let k : Fault notOfTheForm q ≡ Closed nx = rw e at h in clash (cc)
       byView (closes q e) = let k : Closed (suc q) ≡ Closed nx = rw e at h in let w : suc q ≡ nx = cc in rw (e, w)
       byView (counts q bs e l w) = absurd (byNumber q (numberOf q (q + length bs) bs) (rw e at h))
 
@@ -181,13 +179,13 @@ module _ (t : List ℕ) (i : ℕ) where
   inside-fault m n c p h = byThings (tokensAt t i) h
     where
       byNumber : (q : ℕ) (x : Number) (next : ReadAnswer) → itemOfNumber q x ≡ Fault c p → counted q (ltb n m) x next ≡ refused c p
-      byNumber q (Value v e) next k = let z : _≡_ {A = ℕ} 0 1 = cc in absurd (omega arith)
+      byNumber q (Value v e) next k = clash (cc)
       byNumber q (Refused d r) next k = let a : d ≡ c = cc in let b : r ≡ p = cc in rw (a, b)
 
       byThings : (ks : List Token) → itemOf (length t) ks ≡ Fault c p → inside (length t) m n ks ≡ refused c p
       byThings [] k = let a : notOfTheForm ≡ c = cc in let b : length t ≡ p = cc in rw (← a, ← b)
       byThings (opening q ∷ ks) k = let a : notOfTheForm ≡ c = cc in let b : q ≡ p = cc in rw (← a, ← b)
-      byThings (closing q ∷ ks) k = let z : _≡_ {A = ℕ} 0 1 = cc in absurd (omega arith)
+      byThings (closing q ∷ ks) k = clash (cc)
       byThings (number q bs ∷ ks) k = byNumber q (numberOf q (q + length bs) bs) (inside (length t) m (suc n) ks) k
 
   pub values-other : ((p : ℕ) (v : ℤ) (nx : ℕ) → itemOf (length t) (tokensAt t i) ≡ Entry p v nx → ⊥) → valuesOf (tokensAt t i) ≡ []

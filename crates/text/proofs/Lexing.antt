@@ -1,16 +1,16 @@
 -- The things of a text from a place on, as the reader meets them: what separates is passed over, and then a bracket or a number stands there.
-use mathlib.Core.Path.{_≡_, refl, ap, sym, subst, _∙_}
-use Prim.Native.Nat.{ℕ, zero, suc, _+_, _≤_, _<_}
+use mathlib.Core.Path.{_≡_, refl, ap, sym, _∙_}
+use Prim.Native.Nat.{ℕ, suc, _+_, _≤_, _<_}
 use native.Mathlib.Numerals.{add-one}
 use native.Mathlib.Nat.{add-zero, add-suc, suc-add}
 use native.Mathlib.Omega.{arith}
 use mathlib.Core.List.{List, [], _∷_}
-use mathlib.Core.Bool.{Bool, true, false, cond, _||_, not}
+use mathlib.Core.Bool.{Bool, true, false, cond, _||_}
 use lib.Dec.{eqb}
-use lib.ListN.{length, take, drop, getD, length-drop, drop-of-length-le}
+use lib.ListN.{length, drop, getD, length-drop, drop-of-length-le}
 use lib.Seq.{drop-cons, drop-drop, getD-drop}
-use borrow.Author.Tests.{ne-eqb, eq-eqb, not-true, not-false}
-use Rattle.text.proofs.Bools.{or-left, or-right}
+use borrow.Author.Tests.{ne-eqb, eq-eqb, not-true}
+use Rattle.text.proofs.Bools.{clash, or-left, or-right}
 use Rattle.text.specs.Bytes.{hash, openByte, closeByte, isSeparator, inNumber, inComment, inGap}
 use Rattle.text.specs.Numbers.{numberBytes}
 use Rattle.text.specs.Tokens.{Token, opening, closing, number, startOf, push, token, tokens, tokensAt}
@@ -165,8 +165,7 @@ push-ends p b d s e = go (inGap false d) (eqb d openByte) (eqb d closeByte) refl
     go false false true x y z = refl
     go false false false x y z =
         let w : true ≡ false = sym (in-number d x y z) ∙ e in
-        let v : _≡_ {A = ℕ} 0 1 = cc in
-        absurd (omega arith)
+        clash (cc)
 
 -- the bytes behind a byte of a number, as long as they belong to it
 push-run : (p b : ℕ) (s : List ℕ)

@@ -11,3 +11,5 @@ pub mod Putting
 pub mod Entries
 pub mod Writes
 pub mod RoundTrip
+pub mod Exactly
+pub mod Examples

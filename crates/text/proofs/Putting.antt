@@ -4,9 +4,9 @@ use Prim.Native.Nat.{ℕ, zero, suc, _+_, _-_, _/_, _%_, _≤_, _<_}
 use native.Mathlib.Nat.{add-zero, add-assoc}
 use native.Mathlib.Numerals.{add-one}
 use native.Mathlib.Omega.{arith}
-use mathlib.Core.List.{List, [], _∷_, _++_, append-assoc, append-nil}
-use lib.ListN.{length, take, drop, set, length-append, length-take, length-drop, length-set, take-append-drop}
-use lib.Seq.{length-take-le, take-set-le, drop-set-lt, set-split, drop-at, take-at, drop-drop, take-append-le, drop-append-le, append-snoc}
+use mathlib.Core.List.{List, [], _∷_, _++_, append-assoc}
+use lib.ListN.{length, take, drop, set, length-append, length-take, length-drop, take-append-drop}
+use lib.Seq.{length-take-le, take-set-le, set-split, drop-at, take-at, drop-drop, append-snoc}
 use Rattle.text.specs.Bytes.{zeroByte}
 use Rattle.text.specs.Writing.{lowDigits}
 use Rattle.text.specs.Steps.{put}

@@ -1,31 +1,32 @@
 -- Reading what was written gives the list: each entry's text is one number of the text, and that number is the entry.
 --
+--   shortest          no digits of the same value are fewer than those that the writer puts
 --   entry-reads       the shortest decimal of an entry reads as that entry
 --   entry-token       and it is one thing of a text, as long as no byte of a number follows
 --   round-trip        the written text of a list, read into a list with room, gives exactly that list, accepted
 use mathlib.Core.Path.{_≡_, refl, ap, sym, _∙_}
 use Prim.Native.Nat.{ℕ, zero, suc, _+_, _-_, _*_, _/_, _%_, _≤_, _<_}
 use native.Mathlib.Nat.{zero-add, add-zero, add-suc, suc-add}
-use native.Mathlib.Numerals.{add-one, add-two}
+use native.Mathlib.Numerals.{add-two}
 use native.Mathlib.Omega.{arith}
 use native.Mathlib.Decide.{decLt}
 use mathlib.Core.List.{List, [], _∷_, _++_, append-assoc, append-nil}
-use mathlib.Core.Bool.{Bool, true, false, cond, _||_, not, _&&_}
-use mathlib.Core.Option.{Option, none, some}
-use lib.IntN.{ℤ, pos, negsuc, negℤ, natAbs}
-use lib.Dec.{eqb, ltb, leb}
-use lib.ListN.{length, take, drop, getD, length-append}
+use mathlib.Core.Bool.{Bool, true, false, cond}
+use mathlib.Core.Option.{none, some}
+use lib.IntN.{ℤ, pos, negsuc}
+use lib.Dec.{leb}
+use lib.ListN.{length}
 use lib.Seq.{drop-append-seam}
-use borrow.Author.Tests.{ne-eqb, eq-eqb, lt-ltb, le-leb, leb-true}
+use borrow.Author.Tests.{ne-eqb, lt-ltb, le-leb, leb-true}
 use Rattle.list.specs.Limits.{maxEntries}
 use Rattle.text.specs.Bytes.{zeroByte, minusByte, plusByte, isDigit, inNumber}
-use Rattle.text.specs.Numbers.{numberBytes, isMinus, unsigned, decimal, magnitudeOf, greatest, signed, ofMagnitude, numberOf}
-use Rattle.text.specs.Tokens.{Token, opening, closing, number, tokens}
-use Rattle.text.specs.Reading.{accepted, roomOf, inside, opened, readOf, valuesOf, over, readInto}
-use Rattle.text.specs.Writing.{width, width-one, width-more, lowDigits, decimalText, entryText, joint, itemText, entriesText, written, Fits32, AllFit}
-use Rattle.text.specs.declared.number.Number.the-variants.{Value, Refused}
+use Rattle.text.specs.Numbers.{numberBytes, isMinus, unsigned, decimal, magnitudeOf, greatest, numberOf}
+use Rattle.text.specs.Tokens.{Token, number, tokens}
+use Rattle.text.specs.Reading.{accepted, roomOf, inside, readOf, valuesOf, over, readInto}
+use Rattle.text.specs.Writing.{width, width-one, width-more, decimalText, entryText, joint, entriesText, written, Fits32, AllFit}
+use Rattle.text.specs.declared.number.Number.the-variants.{Value}
 use Rattle.text.specs.declared.ReadAnswer.{ReadAnswer}
-use Rattle.text.proofs.Bools.{and-left, and-right}
+use Rattle.text.proofs.Bools.{clash, and-left, and-right}
 use Rattle.text.proofs.Putting.{digits-length}
 use Rattle.text.proofs.Lexing.{number-run}
 
@@ -45,7 +46,7 @@ decimal-more a m d (b ∷ bs) e h = go (isDigit b) e (λ k. decimal-more (a * 10
         → (decimal (a * 10 + (b - zeroByte)) bs ≡ some m → decimal (a * 10 + (b - zeroByte)) (bs ++ (zeroByte + d) ∷ []) ≡ some (m * 10 + d))
         → cond y (decimal (a * 10 + (b - zeroByte)) (bs ++ (zeroByte + d) ∷ [])) none ≡ some (m * 10 + d)
     go true k f = f k
-    go false k f = let z : _≡_ {A = ℕ} 0 1 = cc in absurd (omega arith)
+    go false k f = clash (cc)
 
 -- the shortest decimal of a number has its value
 decimal-small : (n : ℕ) → n < 10 → decimal 0 (decimalText n) ≡ some n
@@ -81,7 +82,7 @@ first-digit a m b bs e = go (isDigit b) refl e
   where
     go : (y : Bool) → isDigit b ≡ y → cond y (decimal (a * 10 + (b - zeroByte)) bs) none ≡ some m → isDigit b ≡ true
     go true k f = k
-    go false k f = let z : _≡_ {A = ℕ} 0 1 = cc in absurd (omega arith)
+    go false k f = clash (cc)
 
 rest-decimal : (a m b : ℕ) (bs : List ℕ) → decimal a (b ∷ bs) ≡ some m → decimal (a * 10 + (b - zeroByte)) bs ≡ some m
 rest-decimal a m b bs e = rw (first-digit a m b bs e) at e
@@ -113,6 +114,35 @@ width-some n = go (decLt n 10)
     go (yes k) = omega (arith, digits-length (width n) n, width-one n k)
     go (no k) = omega (arith, digits-length (width n) n, width-more n (omega arith))
 
+-- ---- no digits of the same value are fewer
+
+digit-small : (b : ℕ) → isDigit b ≡ true → b - zeroByte < 10
+digit-small b e = omega (arith, leb-true b 57 (and-right (leb zeroByte b) (leb b 57) e))
+
+width-step : (a d : ℕ) → d < 10 → width (a * 10 + d) ≤ suc (width a)
+width-step a d h = go (decLt (a * 10 + d) 10)
+  where
+    go : Dec (a * 10 + d < 10) → width (a * 10 + d) ≤ suc (width a)
+    go (yes k) = omega (arith, width-one (a * 10 + d) k)
+    go (no k) =
+        let q : (a * 10 + d) / 10 ≡ a = omega arith in
+        omega (arith, width-more (a * 10 + d) (omega arith), ap width q)
+
+width-grows : (a m : ℕ) (bs : List ℕ) → decimal a bs ≡ some m → width m ≤ width a + length bs
+width-grows a m [] e =
+    let k : a ≡ m = cc in
+    omega (arith, ap width k)
+width-grows a m (b ∷ bs) e =
+    let d = digit-small b (first-digit a m b bs e) in
+    omega (arith, width-step a (b - zeroByte) d, width-grows (a * 10 + (b - zeroByte)) m bs (rest-decimal a m b bs e))
+
+-- one or more digits of value m are at least as many as the writer puts
+pub shortest : (m : ℕ) (bs : List ℕ) → magnitudeOf bs ≡ some m → length (decimalText m) ≤ length bs
+shortest m [] e = clash (cc)
+shortest m (b ∷ bs) e =
+    let d = digit-small b (first-digit 0 m b bs e) in
+    omega (arith, digits-length (width m) m, width-one (0 * 10 + (b - zeroByte)) (omega arith), width-grows (0 * 10 + (b - zeroByte)) m bs (rest-decimal 0 m b bs e))
+
 -- ---- an entry
 
 pub entry-reads : (p e : ℕ) (x : ℤ) → Fits32 x → numberOf p e (entryText x) ≡ Value x e
@@ -138,7 +168,7 @@ run-token p (b ∷ bs) r h e = go (inNumber b) refl e
     go true k f =
         let w : numberBytes (bs ++ r) ≡ bs = cc in
         number-run p b (bs ++ r) k ∙ rw (w, drop-append-seam bs r)
-    go false k f = let z : _≡_ {A = ℕ} 0 1 = cc in absurd (omega arith)
+    go false k f = clash (cc)
 
 entry-some : (x : ℤ) → 0 < length (entryText x)
 entry-some (pos m) = width-some m

@@ -1,15 +1,16 @@
 -- A magnitude with its sign, and the way there and back in machine integers.
-use mathlib.Core.Path.{_≡_, refl, ap, sym, subst, _∙_}
-use Prim.Native.Nat.{ℕ, zero, suc, _≤_, _<_}
+use mathlib.Core.Path.{_≡_, refl, ap, _∙_}
+use Prim.Native.Nat.{ℕ, zero, suc, _≤_}
 use native.Mathlib.Omega.{arith}
 use mathlib.Core.Bool.{Bool, true, false}
 use lib.Dec.{T}
 use lib.IntN.{ℤ, pos, negsuc, negℤ, natAbs, _-ℤ_, +ℤ-idl}
 use lib.Signed.{ltZ, nonNeg}
 use borrow.Author.Tests.{ltb-true, le-ltb}
+use Rattle.text.proofs.Bools.{clash}
 use Rattle.text.specs.Writing.{isNegative}
 use Rattle.text.specs.Numbers.{greatest}
-use mir.Syntax.{Width, w32, w64}
+use mir.Syntax.{w32, w64}
 use mir.Val.{Fits, SFits, ofZ, toZ}
 use mir.ValLaws.{toZ-pos, toZ-ofZ}
 
@@ -77,7 +78,7 @@ below-zero (negsuc n) f e = ((tt, record { fits = omega arith }), refl)
 
 pub not-below-zero : (x : ℤ) → SFits w32 x → ltZ x (pos 0) ≡ false → T (nonNeg x) × Fits w32 (natAbs x)
 not-below-zero (pos n) f e = (tt, record { fits = omega arith })
-not-below-zero (negsuc n) f e = let z : _≡_ {A = ℕ} 0 1 = cc in absurd (omega arith)
+not-below-zero (negsuc n) f e = clash (cc)
 
 pub negative-flag : (x : ℤ) → ltZ x (pos 0) ≡ isNegative x
 negative-flag (pos n) = le-ltb n 0 (omega arith)

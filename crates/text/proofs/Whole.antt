@@ -1,7 +1,6 @@
 -- A whole text: what the opening bracket decides, and that an accepted text gives as many entries as it counts.
-use mathlib.Core.Path.{_≡_, refl, ap, sym, subst, _∙_}
-use Prim.Native.Nat.{ℕ, zero, suc, _+_, _≤_, _<_}
-use native.Mathlib.Nat.{zero-add, add-zero}
+use mathlib.Core.Path.{_≡_, refl, ap, _∙_}
+use Prim.Native.Nat.{ℕ, suc, _+_, _≤_, _<_}
 use native.Mathlib.Numerals.{add-one}
 use native.Mathlib.Omega.{arith}
 use mathlib.Core.List.{List, [], _∷_}
@@ -9,16 +8,16 @@ use mathlib.Core.Bool.{Bool, true, false, cond, _&&_}
 use mathlib.Core.Option.{Option, none, some}
 use lib.IntN.{ℤ}
 use lib.Dec.{eqb, ltb, leb}
-use lib.ListN.{length, take, drop, getD}
+use lib.ListN.{length, take, getD}
 use lib.Seq.{take-all}
 use borrow.Author.Tests.{ltb-true, ltb-false, eqb-true, eqb-false, eq-eqb, ne-eqb}
 use native.Mathlib.Decide.{ℕ-discrete}
-use Rattle.text.proofs.Bools.{and-left, and-right}
+use Rattle.text.proofs.Bools.{clash, and-left, and-right}
 use Rattle.text.specs.Bytes.{openByte, closeByte}
 use Rattle.text.specs.Codes.{notOfTheForm, outOfRange, tooMany}
 use Rattle.text.specs.Numbers.{numberOf, magnitudeOf, unsigned, isMinus, signed, greatest, ofMagnitude}
 use Rattle.text.specs.Tokens.{Token, opening, closing, number, tokens, tokensAt}
-use Rattle.text.specs.Reading.{refused, accepted, roomOf, behind, counted, inside, opened, readOf, valuesOf, valueThen, entriesOf, over, readInto}
+use Rattle.text.specs.Reading.{refused, roomOf, behind, counted, inside, opened, readOf, valuesOf, valueThen, over, readInto}
 use Rattle.text.specs.Steps.{blank}
 use Rattle.text.specs.declared.number.Number.{Number}
 use Rattle.text.specs.declared.number.Number.the-variants.{Value, Refused}
@@ -31,17 +30,17 @@ pub refused-code : (p e : ℕ) (bs : List ℕ) (c q : ℕ) → numberOf p e bs �
 refused-code p e bs c q h = byMagnitude (magnitudeOf (unsigned bs)) h
   where
     byRange : (m : ℕ) (r : Bool) → cond r (Value (signed (isMinus bs) m) e) (Refused outOfRange p) ≡ Refused c q → 0 < c
-    byRange m true k = let z : _≡_ {A = ℕ} 0 1 = cc in absurd (omega arith)
+    byRange m true k = clash (cc)
     byRange m false k = let z : outOfRange ≡ c = cc in omega arith
 
     byMagnitude : (o : Option ℕ) → ofMagnitude p e (isMinus bs) o ≡ Refused c q → 0 < c
     byMagnitude none k = let z : notOfTheForm ≡ c = cc in omega arith
     byMagnitude (some m) k = byRange m (leb m (greatest (isMinus bs))) k
 
--- ---- an accepted text: as many entries as values, and no more than there is room for
+-- ---- an accepted text: as many entries as values
 
 abbrev Counts : ℕ → ℕ → List ℤ → ReadAnswer → Type 0
-Counts m n vs r = r .code ≡ 0 → (r .entries ≡ n + length vs) × (n ≤ m → r .entries ≤ m)
+Counts m n vs r = r .code ≡ 0 → r .entries ≡ n + length vs
 
 number-counts : (m n p : ℕ) (x : Number) (vs : List ℤ) (next : ReadAnswer) → ((c q : ℕ) → x ≡ Refused c q → 0 < c)
     → Counts m (suc n) vs next → Counts m n (valueThen x vs) (counted p (ltb n m) x next)
@@ -49,11 +48,11 @@ number-counts m n p (Refused c q) vs next k h z = let w = k c q refl in absurd (
 number-counts m n p (Value v e) vs next k h z = go (ltb n m) refl z
   where
     go : (r : Bool) → ltb n m ≡ r → Counts m n (v ∷ vs) (cond r next (refused tooMany p))
-    go true t z = let w = h z in (omega arith, λ b. omega (arith, w .1 (ltb-true n m t)))
+    go true t z = let w = h z in omega arith
     go false t z = absurd (omega arith)
 
 behind-counts : (m n : ℕ) (ks : List Token) → Counts m n [] (behind n ks)
-behind-counts m n [] z = (omega arith, λ b. b)
+behind-counts m n [] z = omega arith
 behind-counts m n (k ∷ ks) z = absurd (omega arith)
 
 pub inside-counts : (e m n : ℕ) (ks : List Token) → Counts m n (valuesOf ks) (inside e m n ks)
@@ -63,6 +62,25 @@ inside-counts e m n (closing p ∷ ks) z = behind-counts m n ks z
 inside-counts e m n (number p bs ∷ ks) z =
     number-counts m n p (numberOf p (p + length bs) bs) (valuesOf ks) (inside e m (suc n) ks)
     (refused-code p (p + length bs) bs) (inside-counts e m (suc n) ks) z
+
+-- accepted or not, no more entries are answered than there is room for
+behind-fits : (m n : ℕ) (ks : List Token) → n ≤ m → behind n ks .entries ≤ m
+behind-fits m n [] h = h
+behind-fits m n (k ∷ ks) h = omega arith
+
+number-fits : (m n p : ℕ) (x : Number) (next : ReadAnswer) → (suc n ≤ m → next .entries ≤ m) → counted p (ltb n m) x next .entries ≤ m
+number-fits m n p (Refused c q) next f = omega arith
+number-fits m n p (Value v e) next f = go (ltb n m) refl
+  where
+    go : (r : Bool) → ltb n m ≡ r → cond r next (refused tooMany p) .entries ≤ m
+    go true t = f (ltb-true n m t)
+    go false t = omega arith
+
+inside-fits : (e m n : ℕ) (ks : List Token) → n ≤ m → inside e m n ks .entries ≤ m
+inside-fits e m n [] h = omega arith
+inside-fits e m n (opening p ∷ ks) h = omega arith
+inside-fits e m n (closing p ∷ ks) h = behind-fits m n ks h
+inside-fits e m n (number p bs ∷ ks) h = number-fits m n p (numberOf p (p + length bs) bs) (inside e m (suc n) ks) (λ k. inside-fits e m (suc n) ks k)
 
 -- ---- the opening bracket
 
@@ -102,10 +120,8 @@ module _ (t : List ℕ) (q : ℕ) (at : q ≡ 0 + blank false t) where
         rw (eq-eqb (readOf t (length l) .code) 0 z, whole-opened head)
         (ap (λ (vs : List ℤ). over vs l) (take-all (r .entries) (valuesOf (tokensAt t (q + 1))) (omega arith)))
 
-    pub read-fits : (n : ℕ) → readOf t n .code ≡ 0 → readOf t n .entries ≤ n
-    read-fits n z =
-        let w = inside-counts (length t) (roomOf n) 0 (tokensAt t (q + 1)) (rw (read-inside n) at z) in
-        rw (read-inside n) (omega (arith, w .1 (omega arith)))
+    pub read-fits : (n : ℕ) → readOf t n .entries ≤ n
+    read-fits n = rw (read-inside n) (omega (arith, inside-fits (length t) (roomOf n) 0 (tokensAt t (q + 1)) (omega arith)))
 
 pub into-refused : (t : List ℕ) (l : List ℤ) → (readOf t (length l) .code ≡ 0 → ⊥) → readInto t l ≡ l
 unfolding readInto

@@ -3,5 +3,6 @@ pub mod Bytes
 pub mod Numbers
 pub mod Tokens
 pub mod Reading
+pub mod Faults
 pub mod Writing
 pub mod Steps

@@ -10,11 +10,11 @@
 --   numberOf p e bs      the reading of the number bs that starts at place p and ends before place e
 --   numberAt t at        the reading of the text t at place at
 --   codeOf, placeOf      document 01's numbers for a reading: 0 with its place after it, or the refusal with its place
-use Prim.Native.Nat.{ℕ, zero, suc, _+_, _-_, _*_}
+use Prim.Native.Nat.{ℕ, _+_, _-_, _*_}
 use mathlib.Core.List.{List, [], _∷_}
-use mathlib.Core.Bool.{Bool, true, false, cond, _||_}
+use mathlib.Core.Bool.{Bool, false, cond, _||_}
 use mathlib.Core.Option.{Option, none, some}
-use lib.IntN.{ℤ, pos, negsuc, negℤ}
+use lib.IntN.{ℤ, pos, negℤ}
 use lib.ListN.{length, drop}
 use lib.Dec.{eqb, leb}
 use Rattle.text.specs.Codes.{notOfTheForm, outOfRange}

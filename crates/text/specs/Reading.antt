@@ -12,7 +12,7 @@
 --   readInto t l       the lent list afterwards: the entries read in front of what stays, or all as it was
 use Prim.Native.Nat.{ℕ, suc, _+_, min}
 use mathlib.Core.List.{List, [], _∷_, _++_}
-use mathlib.Core.Bool.{Bool, true, false, cond}
+use mathlib.Core.Bool.{Bool, false, cond}
 use lib.IntN.{ℤ}
 use lib.ListN.{length, drop}
 use lib.Dec.{eqb, ltb}

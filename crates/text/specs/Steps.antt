@@ -7,7 +7,7 @@
 --   put at vs t    the bytes vs at place at of t, and what stood in front of them and behind them
 use Prim.Native.Nat.{ℕ, suc, _+_, min}
 use mathlib.Core.List.{List, [], _∷_, _++_}
-use mathlib.Core.Bool.{Bool, true, false, cond}
+use mathlib.Core.Bool.{Bool, cond}
 use mathlib.Core.Option.{Option, none, some}
 use lib.ListN.{length, take, drop}
 use Rattle.text.specs.Bytes.{inComment, inGap}

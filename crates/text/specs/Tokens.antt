@@ -7,7 +7,7 @@
 --   tokensAt t i     the things in the text t from place i on
 use Prim.Native.Nat.{ℕ, suc}
 use mathlib.Core.List.{List, [], _∷_}
-use mathlib.Core.Bool.{Bool, true, false, cond}
+use mathlib.Core.Bool.{Bool, false, cond}
 use lib.ListN.{drop}
 use lib.Dec.{eqb}
 use Rattle.text.specs.Bytes.{openByte, closeByte, inComment, inGap}

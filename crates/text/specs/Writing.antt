@@ -15,7 +15,7 @@
 --   writeInto l t      the text buffer afterwards: the text in front of what stays, or all as it was
 --   Fits32 x           the entry x is from -2,147,483,648 to 2,147,483,647
 --   AllFit l           so is every entry of l
-use mathlib.Core.Path.{_≡_, refl, ap, sym, _∙_}
+use mathlib.Core.Path.{_≡_, refl, ap, sym}
 use Prim.Native.Nat.{ℕ, zero, suc, _+_, _/_, _%_, _≤_, _<_}
 use native.Mathlib.Omega.{arith}
 use mathlib.Core.List.{List, [], _∷_, _++_}
@@ -23,7 +23,7 @@ use mathlib.Core.Bool.{Bool, true, false, cond}
 use lib.IntN.{ℤ, pos, negsuc, natAbs}
 use lib.ListN.{length, drop, getD}
 use lib.Dec.{eqb, ltb}
-use borrow.Author.Tests.{lt-ltb, le-ltb, ltb-true, ltb-false}
+use borrow.Author.Tests.{lt-ltb, le-ltb, ltb-false}
 use Rattle.list.specs.Limits.{maxEntries}
 use Rattle.text.specs.Codes.{tooLong, noRoom}
 use Rattle.text.specs.Bytes.{openByte, closeByte, minusByte, zeroByte}
@@ -33,7 +33,7 @@ use Rattle.text.specs.declared.WriteAnswer.{WriteAnswer}
 -- f bounds how many digits are looked for
 abbrev pub widthWithin : ℕ → ℕ → ℕ
 widthWithin zero n = 1
-widthWithin (suc f) n = let r : ℕ = widthWithin f (n / 10) in cond (ltb n 10) 1 (suc r)
+widthWithin (suc f) n = let r : ℕ = suc (widthWithin f (n / 10)) in cond (ltb n 10) 1 r
 
 unfoldable pub width : ℕ → ℕ
 width n = widthWithin n n

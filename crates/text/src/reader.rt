@@ -172,12 +172,12 @@ pub fn fill(text: &[u8], at: usize, list: &mut [i32], n: usize)
     }
 }
 
-// Whether the opening bracket stands at `place`.
-pub fn opens_at(text: &[u8], place: usize) -> bool
-    ensures { λ r. ⌜ r ≡ (ltb place (length (now (text .entry))) && eqb (getD (now (text .entry)) place 0) openByte) ⌝ }
+// Whether the opening bracket stands at `start`.
+pub fn opens_at(text: &[u8], start: usize) -> bool
+    ensures { λ r. ⌜ r ≡ (ltb start (length (now (text .entry))) && eqb (getD (now (text .entry)) start 0) openByte) ⌝ }
 {
-    if place < text.len() {
-        text[place] == OPEN
+    if start < text.len() {
+        text[start] == OPEN
     } else {
         false
     }

@@ -7,13 +7,13 @@ use lib.IntN.{ℤ}
 use lib.ListN.{length, take, drop}
 use denote.Ref.{now}
 use Rattle.list.specs.Faces.{runs, facesFrom, faces}
-use Rattle.list.specs.Check.{faceFault, placeIn, byFault, checkFaces}
+use Rattle.list.specs.Check.{faceFault, byFault, checkFaces}
 use Rattle.list.specs.Flags.{Flags}
 use Rattle.list.specs.declared.Cursor.{Cursor}
 use Rattle.list.specs.declared.FaceFault.{FaceFault}
 use Rattle.list.specs.declared.FaceFault.the-variants as Fault·
 use Rattle.list.proofs.Runs.{Stepped, step-stepped, step-last}
-use Rattle.list.proofs.Faults.{fault-fits}
+use Rattle.list.proofs.Faults.{placeIn, fault-fits}
 use Rattle.list.proofs.Checking.{Checking, sound, checking-start, checking-done, checking-face, checking-turn, checking-fits}
 use Rattle.list.proofs.check_faces.Statement.{statement}
 use Rattle.list.proofs.check_faces.Tie as tie

@@ -1,13 +1,13 @@
 -- `text::read` meets its contract: the pass that looks gives the answer, and the pass that fills writes only where that accepts.
-use mathlib.Core.Path.{_≡_, sym, ap, _∙_}
+use mathlib.Core.Path.{_≡_, sym, _∙_}
+use Prim.Native.Nat.{_≤_}
 use mathlib.Core.Bool.{true, _&&_}
 use native.Mathlib.Omega.{arith}
 use lib.Dec.{eqb, ltb}
 use lib.ListN.{length, getD}
 use borrow.Author.Tests.{not-true, not-false, ltb-true}
 use Rattle.text.specs.Bytes.{openByte}
-use Rattle.text.specs.Reading.{readOf, inside}
-use Rattle.text.specs.Tokens.{tokensAt}
+use Rattle.text.specs.Reading.{readOf}
 use Rattle.text.proofs.Bools.{and-left}
 use Rattle.text.proofs.Whole.{whole-unopened, read-inside, read-entries, read-fits, into-refused, refused-not}
 use borrow.Author.Needs.{needs}
@@ -64,7 +64,9 @@ fill-requires c κs =
     let u = c .before .before in
     let s = u .before .before .before .before .skip in
     let a = u .before .before .before .before .before .before .args in
-    rw (answer u) (read-fits (a .text .now) (s .result) (s .ensures) (head (u .before .before)) (length (a .list .now)) (rw (answer u) at (c .before .if2 .taken)))
+    let k : u .look .result .entries ≤ length (a .list .now) =
+    rw (answer u) (read-fits (a .text .now) (s .result) (s .ensures) (head (u .before .before)) (length (a .list .now))) in
+    omega arith
 
 same-length : tie.Need-same-length
 same-length c = search needs

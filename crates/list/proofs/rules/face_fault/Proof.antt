@@ -12,7 +12,7 @@ use Rattle.list.proofs.rules.face_fault.Tie as tie
 
 -- the face passed the first test
 inside : (c : tie.Else1) → length (now (c .before .before .before .args .face)) ≤ firstOutside (c .before .before .before .args .n) (now (c .before .before .before .args .face))
-inside c = rw (c .before .first-outside .ensures) at (c .if1 .left)
+inside c = omega (arith, c .before .first-outside .ensures, c .if1 .left)
 
 first-outside-requires : tie.Need-first-outside-requires
 first-outside-requires c κs = search needs

@@ -14,7 +14,7 @@ use Rattle.text.proofs.reader.Item.{the-type}
 use lib.ListN.{length, take, drop, length-set}
 use Rattle.text.specs.Tokens.{tokensAt}
 use Rattle.text.specs.Reading.{valuesOf, over}
-use Rattle.text.proofs.Items.{entry-at, values-entry, values-other}
+use Rattle.text.proofs.Items.{values-entry, values-other}
 use Rattle.text.proofs.Filling.{fill-turn, fill-none, fill-end}
 use Rattle.text.proofs.reader.fill.Statement.{statement}
 use Rattle.text.proofs.reader.fill.Tie as tie

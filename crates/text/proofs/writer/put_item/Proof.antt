@@ -1,5 +1,5 @@
 -- `text::writer::put_item` meets its contract: the entry, and a comma and a space behind it where another one follows.
-use mathlib.Core.Path.{_≡_, ap, _∙_}
+use mathlib.Core.Path.{_≡_, ap}
 use mathlib.Core.List.{[], _∷_}
 use Prim.Native.Nat.{suc, _+_}
 use native.Mathlib.Omega.{arith}

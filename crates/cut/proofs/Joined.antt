@@ -1,0 +1,120 @@
+-- Forests of parents. A join puts the later of two roots under the earlier, and the labels are then the merged ones.
+use Prim.Native.Nat.{ℕ, zero, suc, _+_, _*_, _≤_, _<_, min, max}
+use mathlib.Core.Path.{_≡_, refl, sym, _∙_, ap}
+use mathlib.Core.Bool.{Bool, true, false, cond}
+use mathlib.Core.List.{List, [], _∷_, map}
+use native.Mathlib.Omega.{arith}
+use borrow.Author.Tests.{eqb-true, eqb-false, eq-eqb, ne-eqb}
+use lib.Dec.{eqb}
+use lib.ListN.{length, set, length-set, length-map}
+use lib.Seq.{getD-set-same, getD-set-other, take-set-le}
+use Rattle.cut.specs.Groups.{Link, merge, mergeAll, replaced}
+use Rattle.cut.proofs.Counting.{map-at}
+use Rattle.cut.specs.Forest.{at, link, Forest, Climbs, Regrouped, linksAcross}
+
+replaced-from : (b a : ℕ) → replaced b a b ≡ a
+replaced-from b a = rw (eq-eqb b b refl)
+
+replaced-other : (b a x : ℕ) → (x ≡ b → ⊥) → replaced b a x ≡ x
+replaced-other b a x n = rw (ne-eqb x b n)
+
+replaced-to : (b a : ℕ) → replaced b a a ≡ a
+replaced-to b a = go (eqb a b)
+  where
+    go : (t : Bool) → cond t a a ≡ a
+    go true = refl
+    go false = refl
+
+-- the root b gets the parent a, a root not after b
+module _ (w : List ℕ) (p : ℕ) (labels : List ℕ) (F : Forest w p labels) (a b : ℕ) (a≤b : a ≤ b) (inside : b < length labels) (ra : at labels a ≡ a) (rb : at labels b ≡ b) where
+  merged-at : (i : ℕ) → i < length labels → at (map (replaced b a) labels) i ≡ replaced b a (at labels i)
+  merged-at i h = map-at (replaced b a) labels i h
+
+  word-same : (i : ℕ) → i ≡ b → at (set w (p + b) a) (p + i) ≡ a
+  word-same i e = rw e (getD-set-same w (p + b) a 0 (omega (arith, F .long)))
+
+  word-other : (i : ℕ) → (i ≡ b → ⊥) → at (set w (p + b) a) (p + i) ≡ at w (p + i)
+  word-other i n = getD-set-other w (p + b) (p + i) a 0 (λ e. n (omega arith))
+
+  down : (i : ℕ) → i < length labels → (t : Bool) → eqb i b ≡ t → at (set w (p + b) a) (p + i) ≤ i
+  down i h true e = omega (arith, word-same i (eqb-true i b e), eqb-true i b e)
+  down i h false e = omega (arith, word-other i (eqb-false i b e), F .down i h)
+
+  same : (i : ℕ) → i < length labels → (t : Bool) → eqb i b ≡ t → at (map (replaced b a) labels) (at (set w (p + b) a) (p + i)) ≡ at (map (replaced b a) labels) i
+  same i h true e =
+      rw (word-same i (eqb-true i b e), merged-at i h, merged-at a (omega arith), ra, eqb-true i b e, rb, replaced-from b a, replaced-to b a)
+  same i h false e =
+      let d : at w (p + i) ≤ i = F .down i h in
+      rw (word-other i (eqb-false i b e), merged-at i h, merged-at (at w (p + i)) (omega arith), F .same i h)
+
+  root : (i : ℕ) → i < length labels → (t : Bool) → eqb i b ≡ t → at (set w (p + b) a) (p + i) ≡ i → at (map (replaced b a) labels) i ≡ i
+  root i h true e r =
+      merged-at i h ∙ rw (eqb-true i b e, rb, replaced-from b a) (omega (arith, word-same i (eqb-true i b e), eqb-true i b e))
+  root i h false e r =
+      let q : at labels i ≡ i = F .root i h (sym (word-other i (eqb-false i b e)) ∙ r) in
+      merged-at i h ∙ rw q (replaced-other b a i (eqb-false i b e))
+
+  forest-under : Forest (set w (p + b) a) p (map (replaced b a) labels)
+  forest-under =
+      let l : length (map (replaced b a) labels) ≡ length labels = length-map labels (replaced b a) in
+      record {
+        long = length-set w (p + b) a ∙ F .long ∙ rw l refl;
+        down = λ i h. down i (omega arith) (eqb i b) refl;
+        same = λ i h. same i (omega arith) (eqb i b) refl;
+        root = λ i h. root i (omega arith) (eqb i b) refl;
+      }
+
+-- the roots a and b of the corners x and y are their labels
+module _ (w : List ℕ) (p : ℕ) (labels : List ℕ) (F : Forest w p labels) (x r : ℕ) (inside : x < length labels) (C : Climbs w p x r) where
+  pub root-is-label : at labels x ≡ r
+  root-is-label =
+      let own : at w (p + r) ≡ r = omega (arith, C .below, C .stops, F .down r (omega (arith, C .below))) in
+      sym (C .along (at labels) (λ i h. F .same i (omega (arith, F .long)))) ∙ F .root r (omega (arith, C .below)) own
+
+  pub label-of-root : at labels r ≡ r
+  label-of-root = C .along (at labels) (λ i h. F .same i (omega (arith, F .long))) ∙ root-is-label
+
+module _ (w : List ℕ) (p : ℕ) (labels : List ℕ) (F : Forest w p labels) (x y a b : ℕ) (hx : x < length labels) (hy : y < length labels) (A : Climbs w p x a) (B : Climbs w p y b) where
+  merge-is : (lo hi : ℕ) → min a b ≡ lo → max a b ≡ hi → merge labels (link x y) ≡ map (replaced hi lo) labels
+  merge-is lo hi e d = rw (root-is-label w p labels F x a hx A, root-is-label w p labels F y b hy B, e, d)
+
+  pub join-second : a ≤ b → Forest (set w (p + b) a) p (merge labels (link x y))
+  join-second h =
+      rw (merge-is a b (omega arith) (omega arith))
+      (forest-under w p labels F a b h (omega (arith, B .below)) (label-of-root w p labels F x a hx A) (label-of-root w p labels F y b hy B))
+
+  pub join-first : b ≤ a → Forest (set w (p + a) b) p (merge labels (link x y))
+  join-first h =
+      rw (merge-is b a (omega arith) (omega arith))
+      (forest-under w p labels F b a h (omega (arith, A .below)) (label-of-root w p labels F y b hy B) (label-of-root w p labels F x a hx A))
+
+-- one of the two joins, as the code makes it
+module _ (w : List ℕ) (p x y a b : ℕ) (hx : p + x < length w) (hy : p + y < length w) (A : Climbs w p x a) (B : Climbs w p y b) where
+  pub regrouped-second : a ≤ b → Regrouped w (set w (p + b) a) p (λ labels. merge labels (link x y))
+  regrouped-second h =
+      record {
+        front = take-set-le p w (p + b) a (omega arith);
+        groups = λ labels F. join-second w p labels F x y a b (omega (arith, F .long)) (omega (arith, F .long)) A B h;
+      }
+
+  pub regrouped-first : b ≤ a → Regrouped w (set w (p + a) b) p (λ labels. merge labels (link x y))
+  regrouped-first h =
+      record {
+        front = take-set-le p w (p + a) b (omega arith);
+        groups = λ labels F. join-first w p labels F x y a b (omega (arith, F .long)) (omega (arith, F .long)) A B h;
+      }
+
+-- a join after a join
+regrouped-then : (w w₁ w₂ : List ℕ) (p : ℕ) (k₁ k₂ : Link) → Regrouped w w₁ p (λ labels. merge labels k₁) → Regrouped w₁ w₂ p (λ labels. merge labels k₂) → Regrouped w w₂ p (λ labels. mergeAll labels (k₁ ∷ k₂ ∷ []))
+regrouped-then w w₁ w₂ p k₁ k₂ R S =
+    record { front = S .front ∙ R .front; groups = λ labels F. S .groups (merge labels k₁) (R .groups labels F) }
+
+-- the two joins across an edge, along which the two uses run the same way or opposite ways
+module _ (w w₁ w₂ : List ℕ) (c e m : ℕ) where
+  pub across-same : at w (c + e) ≡ at w (c + m) → Regrouped w w₁ (3 * c) (λ labels. merge labels (link e m)) → Regrouped w₁ w₂ (3 * c) (λ labels. merge labels (link (at w e) (at w m))) → Regrouped w w₂ (3 * c) (λ labels. mergeAll labels (linksAcross w c e m))
+  across-same h R S =
+      rw (eq-eqb (at w (c + e)) (at w (c + m)) h) (regrouped-then w w₁ w₂ (3 * c) (link e m) (link (at w e) (at w m)) R S)
+
+  pub across-opposite : (at w (c + e) ≡ at w (c + m) → ⊥) → Regrouped w w₁ (3 * c) (λ labels. merge labels (link e (at w m))) → Regrouped w₁ w₂ (3 * c) (λ labels. merge labels (link (at w e) m)) → Regrouped w w₂ (3 * c) (λ labels. mergeAll labels (linksAcross w c e m))
+  across-opposite h R S =
+      rw (ne-eqb (at w (c + e)) (at w (c + m)) h) (regrouped-then w w₁ w₂ (3 * c) (link e (at w m)) (link (at w e) m) R S)

@@ -1,0 +1,13 @@
+pub mod Counting
+pub mod Filled
+pub mod Joined
+pub mod JoinLoop
+pub mod Roots
+pub mod Numbering
+pub mod TableLinks
+pub mod Marking
+pub mod Classing
+pub mod Grouping
+pub mod Answers
+pub mod Walk
+pub mod MapLoop

@@ -1,0 +1,109 @@
+-- `renumber::number` meets its contract: the corners before e have the places of their labels among the roots, and the roots met and left make up all.
+use native.Mathlib.Omega.{arith}
+use Prim.Native.Nat.{_+_, _-_, _*_, _≤_}
+use mathlib.Core.Logic.{⊎-elim}
+use denote.Ref.{now}
+use Rattle.cut.proofs.Numbering.{NumberLoop, number-start, number-turn, numbers-written, vertices-counted}
+use Rattle.cut.proofs.renumber.number.Statement.{statement}
+use Rattle.cut.proofs.renumber.number.Tie as tie
+
+abbrev Inv-loop : tie.InvT-loop
+Inv-loop w₀ c k₀ e₀ w k e = (e ≤ c) × NumberLoop w₀ c w k e
+
+abbrev μ-loop : tie.MeasureT-loop
+μ-loop w₀ c k₀ e₀ w k e = c - e
+
+loop-holds : tie.Need-loop-holds Inv-loop μ-loop
+loop-holds c = (omega arith, number-start (now (c .args .w)) (c .args .c))
+
+mul-q : tie.Need-mul-q Inv-loop μ-loop
+mul-q c = omega arith
+
+add-q : tie.Need-add-q Inv-loop μ-loop
+add-q c = omega arith
+
+mul-q-2 : tie.Need-mul-q-2 Inv-loop μ-loop
+mul-q-2 c = omega arith
+
+slice-read-q : tie.Need-slice-read-q Inv-loop μ-loop
+slice-read-q c = omega arith
+
+cast-q : tie.Need-cast-q Inv-loop μ-loop
+cast-q c = omega (arith, c .slice-known .given (3 * c .before .before .before .args .c + c .before .before .loop .e))
+
+mul-w : tie.Need-mul-w Inv-loop μ-loop
+mul-w c = omega arith
+
+slice-read-w : tie.Need-slice-read-w Inv-loop μ-loop
+slice-read-w c = omega arith
+
+mul-w-2 : tie.Need-mul-w-2 Inv-loop μ-loop
+mul-w-2 c = omega arith
+
+slice-write-w : tie.Need-slice-write-w Inv-loop μ-loop
+slice-write-w c = omega arith
+
+cast-w : tie.Need-cast-w Inv-loop μ-loop
+cast-w c = omega arith
+
+mul-w-3 : tie.Need-mul-w-3 Inv-loop μ-loop
+mul-w-3 c = omega arith
+
+slice-write-w-2 : tie.Need-slice-write-w-2 Inv-loop μ-loop
+slice-write-w-2 c = omega arith
+
+add-k : tie.Need-add-k Inv-loop μ-loop
+add-k c = omega arith
+
+add-e : tie.Need-add-e Inv-loop μ-loop
+add-e c = omega arith
+
+loop-less : tie.Need-loop-less Inv-loop μ-loop
+loop-less c = omega arith
+
+loop-again : tie.Need-loop-again Inv-loop μ-loop
+loop-again c =
+    let l = c .before .before .before .loop in
+    let z = c .before .before .before .before in
+    let turn = number-turn (now (z .args .w)) (z .args .c) (z .pre .0) (l .w) (l .k) (l .e) (c .before .before .loop-test .taken) (l .inv .1) in
+    (omega arith, ⊎-elim (λ w. rw (w .2, w .3) (turn .old (w .0 .taken))) (λ w. rw (w .1, w .2) (turn .new (w .0 .left))) (c .if1 .came))
+
+same-length : tie.Need-same-length Inv-loop μ-loop
+same-length c = omega arith
+
+returns : tie.Need-returns Inv-loop μ-loop
+returns c =
+    let l = c .before .loop in
+    let z = c .before .before in (
+      λ j h. l .inv .1 .low j (omega (arith, c .loop-test .left)),
+      λ labels F. (
+        numbers-written (now (z .args .w)) (z .args .c) (z .pre .0) (l .w) (l .k) (l .e) (c .loop-test .left) (l .inv .1) labels F,
+        vertices-counted (now (z .args .w)) (z .args .c) (z .pre .0) (l .w) (l .k) (l .e) (c .loop-test .left) (l .inv .1) labels F,
+      ),
+    )
+
+pub number-spec : {M : Type 1} → statement M
+number-spec =
+    tie.close
+    (tie.spec
+    Inv-loop
+    μ-loop
+    loop-holds
+    mul-q
+    add-q
+    mul-q-2
+    slice-read-q
+    cast-q
+    mul-w
+    slice-read-w
+    mul-w-2
+    slice-write-w
+    cast-w
+    mul-w-3
+    slice-write-w-2
+    add-k
+    add-e
+    loop-less
+    loop-again
+    same-length
+    returns)

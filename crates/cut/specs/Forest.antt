@@ -1,0 +1,95 @@
+-- How the work buffer holds groups: one word of parent for each corner, in the block that starts at p.
+--
+--   at w i             the word at i
+--   link x y           the link between the corners x and y
+--   Forest w p labels  the parents in w are those of groups with these labels: a parent is in its child's group and not after
+--                      it, and a corner that is its own parent is its group's label
+--   Climbs w p x r     r is reached from x by going from child to parent, and is its own parent where no parent is after its child
+--   Regrouped w w' p g the block at p of w has become that of w', and groups of labels have become those of g of the labels
+--   TableWords w c     the work of c corners: four blocks, and each next corner is a corner
+--   VertexWords w c n  the same, with few corners and all vertices below n
+--   Grouped l c w      w holds the edge table of the list l, of c corners, and behind it the parents of its fans
+--   Renumbered         the new list, the map before and after it is written, and the new vertices, for these labels
+--   linksAtCorner      the links across the edge that starts at a corner, from the words of the edge table
+--   tableLinks w c     the links of the edge table in w
+use Prim.Native.Nat.{ℕ, zero, suc, _+_, _*_, _≤_, _<_, _^_}
+use mathlib.Core.Path.{_≡_}
+use mathlib.Core.List.{List, [], _∷_, _++_}
+use mathlib.Core.Bool.{Bool, true, false, cond, _&&_}
+use lib.Dec.{ltb, eqb}
+use lib.IntN.{ℤ}
+use lib.ListN.{length, getD, take, replicate}
+use Rattle.cut.specs.Groups.{Link, fanLabels, groupLabels}
+use Rattle.edges.specs.Uses.{uses, singularEdges}
+use Rattle.edges.specs.Table.{tableOf}
+use Rattle.cut.specs.Renumber.{newListOf, newVertices, mapOf}
+use Rattle.cut.specs.Classes.{singularVertices}
+use Rattle.cut.specs.Cut.{over}
+
+abbrev pub at : List ℕ → ℕ → ℕ
+at w i = getD w i 0
+
+abbrev pub link : ℕ → ℕ → Link
+link x y = record { one = x; two = y }
+
+pub record Forest (w : List ℕ) (p : ℕ) (labels : List ℕ) : Type 0 where
+  pub long : length w ≡ p + length labels
+  pub down : (i : ℕ) → i < length labels → at w (p + i) ≤ i
+  pub same : (i : ℕ) → i < length labels → at labels (at w (p + i)) ≡ at labels i
+  pub root : (i : ℕ) → i < length labels → at w (p + i) ≡ i → at labels i ≡ i
+
+pub record Climbs (w : List ℕ) (p x r : ℕ) : Type 0 where
+  pub below : r ≤ x
+  pub stops : r ≤ at w (p + r)
+  pub along : (f : ℕ → ℕ) → ((i : ℕ) → p + i < length w → f (at w (p + i)) ≡ f i) → f r ≡ f x
+
+pub record Regrouped (w w′ : List ℕ) (p : ℕ) (g : List ℕ → List ℕ) : Type 0 where
+  pub front : take p w′ ≡ take p w
+  pub groups : (labels : List ℕ) → Forest w p labels → Forest w′ p (g labels)
+
+pub record TableWords (w : List ℕ) (c : ℕ) : Type 0 where
+  pub long : length w ≡ 4 * c
+  pub nexts : (e : ℕ) → e < c → at w e < c
+
+pub record VertexWords (w : List ℕ) (c n : ℕ) : Type 0 where
+  pub table : TableWords w c
+  pub few : c < 2 ^ 30
+  pub inside : (e : ℕ) → e < c → at w (c + e) < n
+
+pub record Grouped (l : List ℤ) (c : ℕ) (w : List ℕ) : Type 0 where
+  pub count : c ≡ length (uses l)
+  pub size : length w ≡ 4 * c
+  pub front : take (3 * c) w ≡ take (3 * c) (tableOf l)
+  pub forest : Forest w (3 * c) (fanLabels l)
+
+pub record Renumbered (l : List ℤ) (labels : List ℕ) (vertices : ℕ) (newList map map′ : List ℤ) : Type 0 where
+  pub list : newList ≡ newListOf l labels
+  pub back : map′ ≡ over (mapOf l labels) map
+  pub count : vertices ≡ newVertices labels
+
+-- the corners e and m start the two uses of an edge
+abbrev pub linksAcross : List ℕ → ℕ → ℕ → ℕ → List Link
+linksAcross w c e m =
+    cond (eqb (at w (c + e)) (at w (c + m)))
+    (link e m ∷ link (at w e) (at w m) ∷ [])
+    (link e (at w m) ∷ link (at w e) m ∷ [])
+
+abbrev pub linksAtCorner : List ℕ → ℕ → ℕ → List Link
+linksAtCorner w c e = cond (ltb e (at w (2 * c + e)) && ltb (at w (2 * c + e)) c) (linksAcross w c e (at w (2 * c + e))) []
+
+-- the links at n corners from e on
+abbrev pub linksFromCorner : List ℕ → ℕ → ℕ → ℕ → List Link
+linksFromCorner w c e zero = []
+linksFromCorner w c e (suc n) = linksAtCorner w c e ++ linksFromCorner w c (suc e) n
+
+unfoldable pub tableLinks : List ℕ → ℕ → List Link
+tableLinks w c = linksFromCorner w c 0 c
+
+-- what is made of a valid list: the three counts, the new list, the map and the cleared work
+pub record CutMade (l : List ℤ) (n c : ℕ) (vertices edges points : ℕ) (newList map map′ : List ℤ) (work : List ℕ) : Type 0 where
+  pub list : newList ≡ newListOf l (groupLabels l)
+  pub back : map′ ≡ over (mapOf l (groupLabels l)) map
+  pub cleared : work ≡ replicate (4 * c) 0
+  pub vertices-are : vertices ≡ newVertices (groupLabels l)
+  pub edges-are : edges ≡ singularEdges l
+  pub points-are : points ≡ singularVertices l n

@@ -1,0 +1,85 @@
+// Groups of corners in the work buffer: for each corner a parent, in the block that starts at p, that is not after it.
+ghost use mathlib.Core.Path.{_≡_};
+ghost use mathlib.Core.List.{List};
+ghost use Prim.Native.Nat.{ℕ, _+_, _-_, _*_, _<_, _≤_, _^_};
+ghost use lib.ListN.{length, take};
+ghost use Rattle.cut.specs.Groups.{merge, mergeAll, upTo, labelsOf};
+ghost use Rattle.cut.specs.Forest.{Climbs, Regrouped, TableWords, Forest, link, linksAcross, tableLinks};
+
+// The corner at which the way from x over parents ends. It only reads.
+fn root(w: &[u32], p: usize, x: usize) -> usize
+    requires { ⌜ p + x < length (now w) ⌝ }
+    ensures { λ r. ⌜ Climbs (now (w .entry)) p x r ⌝ }
+{
+    let mut r = x;
+    while (w[p + r] as usize) < r {
+        r = w[p + r] as usize;
+    }
+    r
+}
+
+// Joins the groups of the corners x and y: the later of their two roots gets the earlier for its parent.
+fn join(w: &mut [u32], p: usize, x: usize, y: usize)
+    requires { ⌜ (p + x < length (now w)) × (p + y < length (now w)) × (length (now w) < 2 ^ 32) ⌝ }
+    ensures { λ _. ⌜ Regrouped (now (w .entry)) (now (w .exit)) p (λ labels. merge labels (link x y)) ⌝ }
+{
+    let a = root(w, p, x);
+    let b = root(w, p, y);
+    if a < b {
+        w[p + b] = a as u32;
+    } else {
+        w[p + a] = b as u32;
+    }
+}
+
+// Joins across the regular edge whose two uses start at the corners e and m: the two corners at each of its endpoints.
+fn join_across(w: &mut [u32], c: usize, e: usize, m: usize)
+    requires { ⌜ TableWords (now w) c × (e < c) × (m < c) × (c < 2 ^ 30) ⌝ }
+    ensures { λ _. ⌜ Regrouped (now (w .entry)) (now (w .exit)) (3 * c) (λ labels. mergeAll labels (linksAcross (now (w .entry)) c e m)) ⌝ }
+{
+    let f = w[e] as usize;
+    let g = w[m] as usize;
+    if w[c + e] == w[c + m] {
+        join(w, 3 * c, e, m);
+        join(w, 3 * c, f, g);
+    } else {
+        join(w, 3 * c, e, g);
+        join(w, 3 * c, f, m);
+    }
+}
+
+// Joins across every regular edge, each once, at its earlier use.
+fn join_edges(w: &mut [u32], c: usize)
+    requires { ⌜ TableWords (now w) c × (c < 2 ^ 30) ⌝ }
+    ensures { λ _. ⌜ Regrouped (now (w .entry)) (now (w .exit)) (3 * c) (λ labels. mergeAll labels (tableLinks (now (w .entry)) c)) ⌝ }
+{
+    for e in 0..c {
+        let m = w[2 * c + e] as usize;
+        if e < m {
+            if m < c {
+                join_across(w, c, e, m);
+            }
+        }
+    }
+}
+
+// Every corner its own parent, in the block that starts at p.
+fn separate(w: &mut [u32], p: usize)
+    requires { ⌜ (p ≤ length (now w)) × (length (now w) < 2 ^ 32) ⌝ }
+    ensures { λ _. ⌜ (take p (now (w .exit)) ≡ take p (now (w .entry))) × Forest (now (w .exit)) p (upTo (length (now (w .entry)) - p)) ⌝ }
+{
+    let mut i = 0;
+    while p + i < w.len() {
+        w[p + i] = i as u32;
+        i += 1;
+    }
+}
+
+// The groups of the edge table in w, as parents in its fourth block.
+pub fn group(w: &mut [u32], c: usize)
+    requires { ⌜ TableWords (now w) c × (c < 2 ^ 30) ⌝ }
+    ensures { λ _. ⌜ (take (3 * c) (now (w .exit)) ≡ take (3 * c) (now (w .entry))) × Forest (now (w .exit)) (3 * c) (labelsOf c (tableLinks (now (w .entry)) c)) ⌝ }
+{
+    separate(w, 3 * c);
+    join_edges(w, c);
+}

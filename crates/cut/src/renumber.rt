@@ -1,0 +1,104 @@
+// The new list and the map from the groups in the work buffer. A corner with an earlier parent takes the number that stands
+// there already, any other is the earliest of its group.
+ghost use mathlib.Core.Path.{_≡_};
+ghost use mathlib.Core.List.{List, _++_};
+ghost use Prim.Native.Nat.{ℕ, _*_, _<_, _≤_, _^_};
+ghost use lib.IntN.{pos};
+ghost use lib.ListN.{length, getD, set, drop};
+ghost use Rattle.list.specs.Faces.{isEnd, corners};
+ghost use Rattle.cut.specs.Renumber.{newNumbers, newVertices, refilled, mapOf};
+ghost use Rattle.cut.specs.Cut.{over};
+ghost use Rattle.cut.specs.Forest.{Forest, Renumbered};
+
+// Writes each corner's new vertex over the first block, and answers how many new vertices there are.
+fn number(w: &mut [u32], c: usize) -> usize
+    requires { ⌜ (length (now w) ≡ 4 * c) × (c < 2 ^ 30) ⌝ }
+    ensures { λ r. ⌜ ((j : ℕ) → j < c → getD (now (w .exit)) j 0 < c) × ((labels : List ℕ) → Forest (now (w .entry)) (3 * c) labels → (now (w .exit) ≡ newNumbers labels ++ drop c (now (w .entry))) × (r ≡ newVertices labels)) ⌝ }
+{
+    let mut k = 0;
+    for e in 0..c {
+        let q = w[3 * c + e] as usize;
+        if q < e {
+            w[e] = w[q];
+        } else {
+            w[e] = k as u32;
+            k += 1;
+        }
+    }
+    k
+}
+
+// Whether the entry at i is the -1 that ends a face.
+fn end_at(list: &[i32], i: usize) -> bool
+    requires { ⌜ i < length (now list) ⌝ }
+    ensures { λ r. ⌜ r ≡ isEnd (getD (now (list .entry)) i (pos 0)) ⌝ }
+{
+    list[i] == -1
+}
+
+// Stores the number k as an entry.
+fn put_entry(entries: &mut [i32], i: usize, k: u32)
+    requires { ⌜ (i < length (now entries)) × (k < 2 ^ 31) ⌝ }
+    ensures { λ _. ⌜ now (entries .exit) ≡ set (now (entries .entry)) i (pos k) ⌝ }
+{
+    entries[i] = k as i32;
+}
+
+// Copies the list's entry at i to the place k of other entries.
+fn copy_entry(list: &[i32], i: usize, entries: &mut [i32], k: usize)
+    requires { ⌜ (i < length (now list)) × (k < length (now entries)) ⌝ }
+    ensures { λ _. ⌜ now (entries .exit) ≡ set (now (entries .entry)) k (getD (now (list .entry)) i (pos 0)) ⌝ }
+{
+    entries[k] = list[i];
+}
+
+// Writes the new list: -1 where the list has it, and at its corners, in their order, the numbers in w.
+fn fill_list(list: &[i32], w: &[u32], new_list: &mut [i32])
+    requires { ⌜ (length (now «new_list») ≡ length (now list)) × (length (corners (now list)) ≤ length (now w)) × ((e : ℕ) → e < length (now w) → getD (now w) e 0 < 2 ^ 31) ⌝ }
+    ensures { λ _. ⌜ now («new_list» .exit) ≡ refilled (now (list .entry)) (now (w .entry)) ⌝ }
+{
+    let mut e = 0;
+    for i in 0..list.len() {
+        if end_at(list, i) {
+            copy_entry(list, i, new_list, i);
+        } else {
+            put_entry(new_list, i, w[e]);
+            e += 1;
+        }
+    }
+}
+
+// Writes the map: for each corner without an earlier parent, in their order, the list's entry there.
+fn fill_map(list: &[i32], w: &[u32], c: usize, map: &mut [i32])
+    requires { ⌜ (length (now w) ≡ 4 * c) × (length (corners (now list)) ≡ c) × (c ≤ length (now map)) ⌝ }
+    ensures { λ _. ⌜ ((labels : List ℕ) → Forest (now (w .entry)) (3 * c) labels → now (map .exit) ≡ over (mapOf (now (list .entry)) labels) (now (map .entry))) ⌝ }
+{
+    let mut e = 0;
+    let mut k = 0;
+    for j in 0..list.len() {
+        if !end_at(list, j) {
+            if e <= w[3 * c + e] as usize {
+                copy_entry(list, j, map, k);
+                k += 1;
+            }
+            e += 1;
+        }
+    }
+}
+
+// The new list and the map of the groups in w, and how many new vertices there are. The first block of w is written over.
+pub fn renumber(
+    list: &[i32],
+    w: &mut [u32],
+    c: usize,
+    new_list: &mut [i32],
+    map: &mut [i32],
+) -> usize
+    requires { ⌜ (length (now w) ≡ 4 * c) × (length (corners (now list)) ≡ c) × (c < 2 ^ 30) × (length (now «new_list») ≡ length (now list)) × (c ≤ length (now map)) ⌝ }
+    ensures { λ r. ⌜ ((labels : List ℕ) → Forest (now (w .entry)) (3 * c) labels → Renumbered (now (list .entry)) labels r (now («new_list» .exit)) (now (map .entry)) (now (map .exit))) ⌝ }
+{
+    fill_map(list, w, c, map);
+    let vertices = number(w, c);
+    fill_list(list, &w[..c], new_list);
+    vertices
+}

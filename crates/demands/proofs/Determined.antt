@@ -1,0 +1,41 @@
+-- "Any two results that its contract admits coincide", for every public function. `Learnt` is what a caller learns from the contract: of
+-- the arguments, the answer, and the arguments as the call leaves them.
+use mathlib.Core.Path.{_≡_, sym, _∙_}
+use contract.Lifetimes.{Lfts}
+use denote.Ref.{now}
+use Rattle.list.proofs.IndexList.max_entries.Reads as max-entries
+use Rattle.list.proofs.IndexList.max_vertices.Reads as max-vertices
+use Rattle.list.proofs.IndexList.cursor.Reads as cursor
+use Rattle.list.proofs.Cursor.next.Reads as next
+use Rattle.list.proofs.vertex_at.Reads as vertex-at
+use Rattle.list.proofs.check.Reads as check
+use Rattle.list.proofs.face_span.Reads as face-span
+use Rattle.list.proofs.face.Reads as face
+
+coincide : {A : Type 0} {x y z : A} → x ≡ z → y ≡ z → x ≡ y
+coincide p q = p ∙ sym q
+
+-- list
+pub max-entries-determined : (κs : Lfts 0) (a : _) (r₁ r₂ : _) (s₁ s₂ : _) → max-entries.Learnt κs a r₁ s₁ → max-entries.Learnt κs a r₂ s₂ → r₁ ≡ r₂
+max-entries-determined κs a r₁ r₂ s₁ s₂ p q = coincide p q
+
+pub max-vertices-determined : (κs : Lfts 0) (a : _) (r₁ r₂ : _) (s₁ s₂ : _) → max-vertices.Learnt κs a r₁ s₁ → max-vertices.Learnt κs a r₂ s₂ → r₁ ≡ r₂
+max-vertices-determined κs a r₁ r₂ s₁ s₂ p q = coincide p q
+
+pub cursor-determined : (κs : Lfts 0) (a : _) (r₁ r₂ : _) (s₁ s₂ : _) → cursor.Learnt κs a r₁ s₁ → cursor.Learnt κs a r₂ s₂ → r₁ ≡ r₂
+cursor-determined κs a r₁ r₂ s₁ s₂ p q = λ i. record { at = coincide p q i }
+
+pub next-determined : (κs : Lfts 1) (a : _) (r₁ r₂ : _) (s₁ s₂ : _) → next.Learnt κs a r₁ s₁ → next.Learnt κs a r₂ s₂ → r₁ ≡ r₂
+next-determined κs a r₁ r₂ s₁ s₂ p q = coincide p q
+
+pub vertex-at-determined : (κs : Lfts 1) (a : _) (r₁ r₂ : _) (s₁ s₂ : _) → vertex-at.Learnt κs a r₁ s₁ → vertex-at.Learnt κs a r₂ s₂ → r₁ ≡ r₂
+vertex-at-determined κs a r₁ r₂ s₁ s₂ p q = coincide p q
+
+pub check-determined : (κs : Lfts 1) (a : _) (r₁ r₂ : _) (s₁ s₂ : _) → check.Learnt κs a r₁ s₁ → check.Learnt κs a r₂ s₂ → r₁ ≡ r₂
+check-determined κs a r₁ r₂ s₁ s₂ p q = coincide p q
+
+pub face-span-determined : (κs : Lfts 1) (a : _) (r₁ r₂ : _) (s₁ s₂ : _) → face-span.Learnt κs a r₁ s₁ → face-span.Learnt κs a r₂ s₂ → r₁ ≡ r₂
+face-span-determined κs a r₁ r₂ s₁ s₂ p q = coincide p q
+
+pub face-determined : (κs : Lfts 1) (a : _) (r₁ r₂ : _) (s₁ s₂ : _) → face.Learnt κs a r₁ s₁ → face.Learnt κs a r₂ s₂ → now r₁ ≡ now r₂
+face-determined κs a r₁ r₂ s₁ s₂ p q = coincide p q
