@@ -7,7 +7,8 @@ ghost use Rattle.list.specs.Show.{spanOf};
 ghost use Rattle.text.specs.Reading.{readOf, readInto};
 ghost use Rattle.text.specs.Writing.{writeOf, writeInto};
 ghost use Rattle.edges.specs.Table.{edgeOf};
-ghost use Rattle.brimclif.specs.Numbers.{checkNumbers, edgeNumbers, readNumbers, writeNumbers, spanNumbers};
+ghost use Rattle.cut.specs.Cut.{cutOf, cutList, cutMap, cutWork, classesAnswer, classesBytes, classesWork};
+ghost use Rattle.brimclif.specs.Numbers.{checkNumbers, edgeNumbers, classesNumbers, cutNumbers, readNumbers, writeNumbers, spanNumbers};
 
 // Whether the list is valid with n vertices: code, place, faces, corners.
 // Refused by 1 to 5.
@@ -32,6 +33,52 @@ pub extern "C" fn brimclif_edge(list: &[i32], n: u64, a: i32, b: i32, answer: &m
 {
     let r = edges::faces_on(list, n as usize, a, b);
     *answer = [r.code as u64, r.place as u64, r.faces as u64];
+}
+
+// The class of each vertex, to the start of the class buffer: code, place.
+// Refused by 1 to 5, 8 and 9; a refusal writes to no buffer.
+#[no_mangle]
+pub extern "C" fn brimclif_classes(
+    list: &[i32],
+    n: u64,
+    classes: &mut [u8],
+    work: &mut [u32],
+    answer: &mut [u64; 2],
+)
+    ensures { λ _. ⌜ now (answer .exit) ≡ classesNumbers (classesAnswer (now (list .entry)) n (length (now (classes .entry))) (length (now (work .entry)))) ⌝ }
+    ensures { λ _. ⌜ now (classes .exit) ≡ classesBytes (now (list .entry)) n (now (classes .entry)) (now (work .entry)) ⌝ }
+    ensures { λ _. ⌜ now (work .exit) ≡ classesWork (now (list .entry)) n (now (classes .entry)) (now (work .entry)) ⌝ }
+{
+    let r = cut::classes(list, n as usize, classes, work);
+    *answer = [r.code as u64, r.place as u64];
+}
+
+// The cut, to the start of the new list and of the map: code, place, faces, corners, new vertices, singular edges and vertices.
+// Refused by 1 to 7 and 9; a refusal writes to no buffer.
+#[no_mangle]
+pub extern "C" fn brimclif_cut(
+    list: &[i32],
+    n: u64,
+    new_list: &mut [i32],
+    map: &mut [i32],
+    work: &mut [u32],
+    answer: &mut [u64; 7],
+)
+    ensures { λ _. ⌜ now (answer .exit) ≡ cutNumbers (cutOf (now (list .entry)) n (length (now («new_list» .entry))) (length (now (map .entry))) (length (now (work .entry)))) ⌝ }
+    ensures { λ _. ⌜ now («new_list» .exit) ≡ cutList (now (list .entry)) n (now («new_list» .entry)) (now (map .entry)) (now (work .entry)) ⌝ }
+    ensures { λ _. ⌜ now (map .exit) ≡ cutMap (now (list .entry)) n (now («new_list» .entry)) (now (map .entry)) (now (work .entry)) ⌝ }
+    ensures { λ _. ⌜ now (work .exit) ≡ cutWork (now (list .entry)) n (now («new_list» .entry)) (now (map .entry)) (now (work .entry)) ⌝ }
+{
+    let r = cut::cut(list, n as usize, new_list, map, work);
+    *answer = [
+        r.code as u64,
+        r.place as u64,
+        r.faces as u64,
+        r.corners as u64,
+        r.vertices as u64,
+        r.singular_edges as u64,
+        r.singular_vertices as u64,
+    ];
 }
 
 // Reads the text into the start of the list: code, place, entries read.
