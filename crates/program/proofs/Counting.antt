@@ -1,7 +1,7 @@
 -- Laws of the vertex count: what an entry's bits say of it, and one entry more.
-use Prim.Native.Nat.{ℕ, suc, _+_, _≤_, _<_, _^_, max}
-use mathlib.Core.Path.{_≡_, refl, sym, _∙_}
-use mathlib.Core.List.{List, [], _∷_}
+use Prim.Native.Nat.{ℕ, _+_, _≤_, _<_, _^_, max}
+use mathlib.Core.Path.{_≡_, refl}
+use mathlib.Core.List.{List}
 use mathlib.Core.Bool.{true, false, true≢false}
 use native.Mathlib.Numerals.{add-one}
 use native.Mathlib.Omega.{arith}

@@ -1,17 +1,21 @@
 -- Laws of a line of numbers: how long a number is, and one number more.
-use Prim.Native.Nat.{ℕ, zero, suc, _+_, _*_, _/_, _≤_, _<_, _^_}
-use mathlib.Core.Path.{_≡_, refl, ap, sym, _∙_}
-use mathlib.Core.List.{List, [], _∷_, _++_}
+use Prim.Native.Nat.{ℕ, zero, suc, _+_, _-_, _*_, _/_, _≤_, _<_, _^_}
+use mathlib.Core.Path.{_≡_, ap, sym, _∙_}
+use mathlib.Core.List.{List, [], _∷_, _++_, append-nil}
 use native.Mathlib.Nat.{pow-succ'}
 use native.Mathlib.Numerals.{add-one}
 use native.Mathlib.Omega.{arith}
 use native.Mathlib.Decide.{decLt}
-use lib.ListN.{length, getD, drop, set, length-append, drop-of-length-le}
-use lib.Seq.{drop-cons}
-use Rattle.text.specs.Writing.{width, width-one, width-more, lowDigits, decimalText}
+use lib.IntN.{ℤ}
+use lib.ListN.{length, getD, take, drop, set, length-append, length-drop, drop-of-length-le}
+use lib.Seq.{take-all, drop-cons, drop-drop}
+use Rattle.list.specs.Limits.{maxEntries}
+use Rattle.text.specs.Writing.{width, width-one, width-more, lowDigits, decimalText, written, acceptedWrite, writeOf, writeInto}
+use Rattle.text.specs.declared.WriteAnswer.{WriteAnswer}
 use Rattle.text.specs.Steps.{put}
 use Rattle.text.proofs.Putting.{digits-length, put-length, put-byte, put-behind}
-use Rattle.program.specs.Printed.{space, lineFeed, behind, numberText, line}
+use Rattle.text.proofs.Writes.{write-fits, into-written}
+use Rattle.program.specs.Printed.{space, lineFeed, behind, numberText, line, listLine}
 
 -- a number below 10 to the k-th has at most k digits
 pub width-within : (k n : ℕ) → n < 10 ^ suc k → width n ≤ suc k
@@ -78,3 +82,41 @@ line-short (x ∷ xs) f =
     let n = number-length (x ∷ xs) 0 (omega arith) in
     let w = width-64 x (f 0) in
     omega (arith, length-append (numberText (x ∷ xs)) (line xs))
+
+-- ---- the text of a list, written to the part of the output t from place at on
+
+module _ (l : List ℤ) (t : List ℕ) (at : ℕ) (few : length l ≤ maxEntries) (room : at + length (listLine l) ≤ length t) where
+  list-length : length (listLine l) ≡ length (written l) + 1
+  list-length = length-append (written l) (lineFeed ∷ [])
+
+  rest : take (length t - at) (drop at t) ≡ drop at t
+  rest = take-all (length t - at) (drop at t) (simp length-drop (omega arith))
+
+  none-after : drop (length t - at) (drop at t) ≡ []
+  none-after = drop-of-length-le (drop at t) {i = length t - at} (simp length-drop (omega arith))
+
+  accepted : writeOf l (length (drop at t)) ≡ acceptedWrite (length (written l))
+  accepted = write-fits l (length (drop at t)) few (simp length-drop (omega (arith, list-length)))
+
+  -- the writer accepts
+  pub list-accepted : (r : WriteAnswer) → r ≡ writeOf l (length (take (length t - at) (drop at t))) → r .length ≡ length (written l)
+  list-accepted r hr =
+      let e : r ≡ acceptedWrite (length (written l)) = hr ∙ ap (λ (u : List ℕ). writeOf l (length u)) rest ∙ accepted in
+      ap (λ (a : WriteAnswer). a .length) e
+
+  pub list-room : at + length (written l) + 1 ≤ length t
+  list-room = omega (arith, list-length)
+
+  pub list-behind : at + length (written l) + 1 ≡ at + length (listLine l)
+  list-behind = omega (arith, list-length)
+
+  -- the part is back in its place, and the line feed follows
+  pub list-put : (u : List ℕ) (q : ℕ) → u ≡ writeInto l (take (length t - at) (drop at t)) → q ≡ at + length (written l)
+      → set (take at t ++ (u ++ drop (length t - at) (drop at t))) q lineFeed ≡ put at (listLine l) t
+  list-put u q hu hq =
+      let w : List ℕ = written l in
+      let e : u ≡ w ++ drop (at + length w) t =
+      hu ∙ rw rest (into-written l (drop at t) (length w) accepted ∙ ap (λ (x : List ℕ). w ++ x) (drop-drop (length w) at t)) in
+      let long : length (put at w t) ≡ length t = put-length at w t (omega (arith, list-length)) in
+      rw (none-after, append-nil u, e, hq) (put-byte (at + length w) lineFeed (put at w t) (omega (arith, list-length)))
+      ∙ put-behind at w (lineFeed ∷ []) t (omega (arith, list-length))

@@ -1,10 +1,11 @@
-// A line of numbers in shortest decimal.
+// The lines that the program prints: numbers in shortest decimal, and the text of a list.
 ghost use mathlib.Core.Path.{_≡_};
 ghost use Prim.Native.Nat.{_+_, _*_, _<_, _≤_};
 ghost use lib.ListN.{length, drop};
 ghost use Rattle.text.specs.Writing.{width, lowDigits};
 ghost use Rattle.text.specs.Steps.{put};
-ghost use Rattle.program.specs.Printed.{behind, numberText, line};
+ghost use Rattle.program.specs.Limits.{inputEntries};
+ghost use Rattle.program.specs.Printed.{behind, numberText, line, listLine};
 
 // How many digits n has.
 fn digit_count(n: u64) -> usize
@@ -20,15 +21,15 @@ fn digit_count(n: u64) -> usize
 }
 
 // Puts the `count` lowest digits of n at `at`, the last one first.
-fn put_digits(text: &mut [u8], at: usize, count: usize, n: u64)
-    requires { ⌜ at + count ≤ length (now text) ⌝ }
-    ensures { λ _. ⌜ now (text .exit) ≡ put at (lowDigits count n) (now (text .entry)) ⌝ }
+fn put_digits(output: &mut [u8], at: usize, count: usize, n: u64)
+    requires { ⌜ at + count ≤ length (now output) ⌝ }
+    ensures { λ _. ⌜ now (output .exit) ≡ put at (lowDigits count n) (now (output .entry)) ⌝ }
 {
     let mut left = count;
     let mut rest = n;
     while 0 < left {
         left -= 1;
-        text[at + left] = b'0' + (rest % 10) as u8;
+        output[at + left] = b'0' + (rest % 10) as u8;
         rest /= 10;
     }
 }
@@ -42,30 +43,43 @@ fn byte_behind(numbers: &[u64], i: usize) -> u8
 }
 
 // Puts number i at `at` with the byte behind it, and answers the place behind that.
-fn put_number(numbers: &[u64], i: usize, text: &mut [u8], at: usize) -> usize
-    requires { ⌜ (i < length (now numbers)) × (at + 21 ≤ length (now text)) ⌝ }
+fn put_number(numbers: &[u64], i: usize, output: &mut [u8], at: usize) -> usize
+    requires { ⌜ (i < length (now numbers)) × (at + 21 ≤ length (now output)) ⌝ }
     ensures { λ r. ⌜ (r ≡ at + length (numberText (drop i (now (numbers .entry))))) × (r ≤ at + 21) ⌝ }
-    ensures { λ _. ⌜ now (text .exit) ≡ put at (numberText (drop i (now (numbers .entry)))) (now (text .entry)) ⌝ }
+    ensures { λ _. ⌜ now (output .exit) ≡ put at (numberText (drop i (now (numbers .entry)))) (now (output .entry)) ⌝ }
 {
     let n = numbers[i];
     let count = digit_count(n);
-    put_digits(text, at, count, n);
+    put_digits(output, at, count, n);
     let end = at + count;
-    text[end] = byte_behind(numbers, i);
+    output[end] = byte_behind(numbers, i);
     end + 1
 }
 
-// Puts the line of the numbers at the start of the text, and answers its length.
-pub fn put_line(numbers: &[u64], text: &mut [u8]) -> usize
-    requires { ⌜ 21 * length (now numbers) ≤ length (now text) ⌝ }
+// Puts the line of the numbers at the start of the output, and answers its length.
+pub fn put_line(numbers: &[u64], output: &mut [u8]) -> usize
+    requires { ⌜ 21 * length (now numbers) ≤ length (now output) ⌝ }
     ensures { λ r. ⌜ (r ≡ length (line (now (numbers .entry)))) × (r ≤ 21 * length (now (numbers .entry))) ⌝ }
-    ensures { λ _. ⌜ now (text .exit) ≡ put 0 (line (now (numbers .entry))) (now (text .entry)) ⌝ }
+    ensures { λ _. ⌜ now (output .exit) ≡ put 0 (line (now (numbers .entry))) (now (output .entry)) ⌝ }
 {
     let mut at = 0;
     let mut i = 0;
     while i < numbers.len() {
-        at = put_number(numbers, i, text, at);
+        at = put_number(numbers, i, output, at);
         i += 1;
     }
     at
+}
+
+// Puts the text of the list at `at` with a line feed behind it, and answers the place behind that.
+pub fn put_list(list: &[i32], output: &mut [u8], at: usize) -> usize
+    requires { ⌜ (length (now list) ≤ inputEntries) × (at + length (listLine (now list)) ≤ length (now output)) ⌝ }
+    ensures { λ r. ⌜ r ≡ at + length (listLine (now (list .entry))) ⌝ }
+    ensures { λ _. ⌜ now (output .exit) ≡ put at (listLine (now (list .entry))) (now (output .entry)) ⌝ }
+{
+    let written = text::write(list, &mut output[at..]);
+    let length = written.length;
+    let end = at + length;
+    output[end] = b'\n';
+    end + 1
 }

@@ -1,6 +1,6 @@
 -- `count::vertex_count` meets its contract: the greater of what is counted and of what is left to count never changes.
-use Prim.Native.Nat.{_+_, _-_, _≤_, max}
-use mathlib.Core.Path.{_≡_, _∙_}
+use Prim.Native.Nat.{_-_, _≤_, max}
+use mathlib.Core.Path.{_≡_}
 use mathlib.Core.Logic.{⊎-elim}
 use native.Mathlib.Omega.{arith}
 use lib.ListN.{length, drop}

@@ -11,11 +11,11 @@ use Rattle.program.proofs.line.put_digits.Statement.{statement}
 use Rattle.program.proofs.line.put_digits.Tie as tie
 
 abbrev Inv-loop : tie.InvT-loop
-Inv-loop text₀ at count n left₀ rest₀ text left rest =
-    (length text ≡ length text₀) × (at + left ≤ length text₀) × (put at (lowDigits left rest) text ≡ put at (lowDigits count n) text₀)
+Inv-loop output₀ at count n left₀ rest₀ output left rest =
+    (length output ≡ length output₀) × (at + left ≤ length output₀) × (put at (lowDigits left rest) output ≡ put at (lowDigits count n) output₀)
 
 abbrev μ-loop : tie.MeasureT-loop
-μ-loop text₀ at count n left₀ rest₀ text left rest = left
+μ-loop output₀ at count n left₀ rest₀ output left rest = left
 
 loop-holds : tie.Need-loop-holds Inv-loop μ-loop
 loop-holds c = (refl, c .pre, refl)
@@ -23,17 +23,17 @@ loop-holds c = (refl, c .pre, refl)
 sub-left : tie.Need-sub-left Inv-loop μ-loop
 sub-left c = search needs
 
-cast-text : tie.Need-cast-text Inv-loop μ-loop
-cast-text c = search needs
+cast-output : tie.Need-cast-output Inv-loop μ-loop
+cast-output c = search needs
 
-add-text : tie.Need-add-text Inv-loop μ-loop
-add-text c = omega arith
+add-output : tie.Need-add-output Inv-loop μ-loop
+add-output c = omega arith
 
-add-text-2 : tie.Need-add-text-2 Inv-loop μ-loop
-add-text-2 c = omega arith
+add-output-2 : tie.Need-add-output-2 Inv-loop μ-loop
+add-output-2 c = omega arith
 
-slice-write-text : tie.Need-slice-write-text Inv-loop μ-loop
-slice-write-text c = omega arith
+slice-write-output : tie.Need-slice-write-output Inv-loop μ-loop
+slice-write-output c = omega arith
 
 loop-less : tie.Need-loop-less Inv-loop μ-loop
 loop-less c = omega arith
@@ -43,7 +43,7 @@ loop-again c =
     let k = c .before .loop in (
       simp length-set (k .inv .0),
       omega arith,
-      put-digit (c .before .before .args .at) (k .left) (k .rest) (k .text) (omega arith) (omega arith) ∙ k .inv .2,
+      put-digit (c .before .before .args .at) (k .left) (k .rest) (k .output) (omega arith) (omega arith) ∙ k .inv .2,
     )
 
 same-length : tie.Need-same-length Inv-loop μ-loop
@@ -53,7 +53,7 @@ returns : tie.Need-returns Inv-loop μ-loop
 returns c =
     let k = c .before .loop in
     let z : k .left ≡ 0 = omega arith in
-    sym (put-none (c .before .before .args .at) (k .text)) ∙ rw z at (k .inv .2)
+    sym (put-none (c .before .before .args .at) (k .output)) ∙ rw z at (k .inv .2)
 
 pub put-digits-spec : {M : Type 1} → statement M
 put-digits-spec =
@@ -63,10 +63,10 @@ put-digits-spec =
     μ-loop
     loop-holds
     sub-left
-    cast-text
-    add-text
-    add-text-2
-    slice-write-text
+    cast-output
+    add-output
+    add-output-2
+    slice-write-output
     loop-less
     loop-again
     same-length

@@ -1,4 +1,4 @@
--- `line::put_line` meets its contract. What is left to put, over the text as it is, never changes.
+-- `line::put_line` meets its contract. What is left to put, over the output as it is, never changes.
 use Prim.Native.Nat.{_+_, _-_, _*_, _≤_}
 use mathlib.Core.Path.{_≡_, refl, ap, sym, _∙_}
 use native.Mathlib.Omega.{arith}
@@ -11,15 +11,15 @@ use Rattle.program.proofs.line.put_line.Statement.{statement}
 use Rattle.program.proofs.line.put_line.Tie as tie
 
 abbrev Inv-loop : tie.InvT-loop
-Inv-loop numbers text₀ at₀ i₀ text at i =
-    (length text ≡ length text₀)
+Inv-loop numbers output₀ at₀ i₀ output at i =
+    (length output ≡ length output₀)
     × (i ≤ length numbers)
     × (at ≤ 21 * i)
     × (at + length (line (drop i numbers)) ≡ length (line numbers))
-    × (put at (line (drop i numbers)) text ≡ put 0 (line numbers) text₀)
+    × (put at (line (drop i numbers)) output ≡ put 0 (line numbers) output₀)
 
 abbrev μ-loop : tie.MeasureT-loop
-μ-loop numbers text₀ at₀ i₀ text at i = length numbers - i
+μ-loop numbers output₀ at₀ i₀ output at i = length numbers - i
 
 loop-holds : tie.Need-loop-holds Inv-loop μ-loop
 loop-holds c = (refl, omega arith, omega arith, omega arith, refl)
@@ -47,7 +47,7 @@ loop-again c =
       omega arith,
       omega (arith, p .ensures),
       omega (arith, p .ensures),
-      put-on (k .at) (p .result) (numberText (drop (k .i) xs)) (line (drop (k .i + 1) xs)) (line (drop (k .i) xs)) (k .text) (p .last .1 .1 .0)
+      put-on (k .at) (p .result) (numberText (drop (k .i) xs)) (line (drop (k .i + 1) xs)) (line (drop (k .i) xs)) (k .output) (p .last .1 .1 .0)
           e (omega (arith, start .pre)) (p .ensures .0 .0) (p .ensures .1)
           ∙ k .inv .4,
     )
@@ -61,7 +61,7 @@ returns c =
     let z = line-past (c .before .before .before .before .args .numbers .now) (k .i) (c .loop-test .left) in
     let n = ap length z in (
       (omega arith, omega arith),
-      sym (put-none (k .at) (k .text)) ∙ rw z at (k .inv .4),
+      sym (put-none (k .at) (k .output)) ∙ rw z at (k .inv .4),
     )
 
 pub put-line-spec : {M : Type 1} → statement M

@@ -23,8 +23,8 @@ add-end c = search needs
 byte-behind-requires : tie.Need-byte-behind-requires
 byte-behind-requires c κs = search needs
 
-slice-write-text : tie.Need-slice-write-text
-slice-write-text c = search needs
+slice-write-output : tie.Need-slice-write-output
+slice-write-output c = search needs
 
 add-result : tie.Need-add-result
 add-result c = search needs
@@ -39,7 +39,7 @@ returns c =
     let d = c .before .before .before .before .before .digit-count in
     let n = number-length (a .numbers .now) (a .i) h in (
       (omega (arith, d .ensures), omega (arith, d .ensures)),
-      number-put (a .numbers .now) (a .i) h (a .at) (d .result) (c .byte-behind .result) (a .text .now) (c .before .before .before .put-digits .last .0)
+      number-put (a .numbers .now) (a .i) h (a .at) (d .result) (c .byte-behind .result) (a .output .now) (c .before .before .before .put-digits .last .0)
           (d .ensures .0) (c .byte-behind .ensures) (omega (arith, d .ensures)) (c .before .before .before .put-digits .ensures),
     )
 
@@ -53,7 +53,7 @@ put-number-spec =
     put-digits-requires
     add-end
     byte-behind-requires
-    slice-write-text
+    slice-write-output
     add-result
     same-length
     returns)
