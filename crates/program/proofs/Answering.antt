@@ -1,7 +1,7 @@
 -- What is printed by the input's size and by what the reader answers, and what is known of the entries that it read.
 use Prim.Native.Nat.{ℕ, zero, suc, _+_, _≤_, _<_}
 use mathlib.Core.Path.{_≡_, refl, ap, sym, _∙_}
-use mathlib.Core.List.{List, [], _∷_}
+use mathlib.Core.List.{List, [], _∷_, _++_}
 use mathlib.Core.Bool.{Bool, true, false, cond}
 use mathlib.Core.Option.{Option, none, some}
 use native.Mathlib.Nat.{zero-add}
@@ -9,8 +9,8 @@ use native.Mathlib.Omega.{arith}
 use borrow.Author.Tests.{lt-ltb, le-ltb, eq-eqb, ne-eqb, leb-true}
 use lib.Dec.{leb}
 use lib.IntN.{ℤ}
-use lib.ListN.{length, take, drop, replicate}
-use lib.Seq.{take-at}
+use lib.ListN.{length, take, drop, replicate, length-append}
+use lib.Seq.{take-at, take-append-seam}
 use Rattle.text.specs.Numbers.{isMinus, unsigned, magnitudeOf, greatest, signed, ofMagnitude, numberOf}
 use Rattle.text.specs.Codes.{outOfRange}
 use Rattle.text.specs.Tokens.{Token, opening, closing, number, tokens}
@@ -47,6 +47,14 @@ module _ (t : List ℕ) where
       → _≡_ {A = Response} (record { bytes = bytes; length = n }) (responseOf t)
   unfolding responseOf
   responded bytes n e h = rw (e, h, zero-add (length (printed t)))
+
+  -- what is printed lies within the response's bytes, as lending that part of them asks
+  pub within : (r : Response) → r ≡ responseOf t → (r .length ≤ length (r .bytes)) × (r .length ≡ length (take (r .length) (r .bytes)))
+  unfolding responseOf
+  within r e =
+      let w : List ℕ = printed t in
+      let zeros : List ℕ = drop (length w) (replicate outputBytes 0) in
+      rw e (omega (arith, length-append w zeros), ap length (sym (take-append-seam w zeros)))
 
 -- ---- the entries read are of 32 bits
 
