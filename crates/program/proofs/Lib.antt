@@ -1,0 +1,7 @@
+pub mod Counting
+pub mod Lines
+pub mod Fitting
+pub mod Cutting
+pub mod Answering
+pub mod Cases
+pub mod Codes
