@@ -147,13 +147,18 @@ impl Surface {
         for &vertex in &fans.vertex_of {
             *fan_count.entry(vertex).or_default() += 1;
         }
-        let class = |vertex: i32| match fan_count.get(&vertex) {
-            None => 0,
-            Some(_) if singular.contains(&vertex) => 3,
-            Some(&count) if 1 < count => 4,
-            Some(_) if boundary.contains(&vertex) => 2,
-            Some(_) => 1,
-        };
-        (0..n as i32).map(class).collect()
+        let mut classes = vec![0; n as usize];
+        for (vertex, count) in fan_count {
+            classes[vertex as usize] = if singular.contains(&vertex) {
+                3
+            } else if 1 < count {
+                4
+            } else if boundary.contains(&vertex) {
+                2
+            } else {
+                1
+            };
+        }
+        classes
     }
 }
