@@ -1,7 +1,7 @@
 //! The edge question, the class call and the cut, with what they leave in the lent buffers.
 
-use crate::faces::{checked, corner_count};
-use crate::surface::{edge_between, Surface};
+use crate::faces::{checked, corner_count, Face};
+use crate::surface::Surface;
 use crate::{refusal, refused, Refusal};
 
 const WORK_WORDS_A_CORNER: usize = 4;
@@ -24,8 +24,15 @@ pub fn edge(list: &[i32], n: u64, a: i32, b: i32) -> [u64; 3] {
     if a == b || !vertices.contains(&a.into()) || !vertices.contains(&b.into()) {
         return refused(refusal(10, 0));
     }
-    let faces_on = Surface::new(&faces).faces_on(edge_between(a, b));
+    let faces_on = faces.iter().filter(|face| has_edge(face, a, b)).count();
     [0, 0, faces_on as u64]
+}
+
+/// Whether two indices are neighbours in a face, its last corner being a neighbour of its first.
+fn has_edge(face: &Face, a: i32, b: i32) -> bool {
+    let next = face.entries.iter().cycle().skip(1);
+    let mut pairs = face.entries.iter().zip(next);
+    pairs.any(|(&one, &other)| (one, other) == (a, b) || (other, one) == (a, b))
 }
 
 /// The classes of all vertices, or the refusal, and how much of work the call needs.

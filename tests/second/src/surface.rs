@@ -4,10 +4,10 @@ use crate::faces::Face;
 use std::collections::{BTreeMap, BTreeSet};
 
 /// An edge: its two indices, the lower one first.
-pub type Edge = (i32, i32);
+type Edge = (i32, i32);
 
 /// The edge between two indices, whichever way a face runs along it.
-pub fn edge_between(a: i32, b: i32) -> Edge {
+fn edge_between(a: i32, b: i32) -> Edge {
     (a.min(b), a.max(b))
 }
 
@@ -57,11 +57,6 @@ impl Surface {
             faces_on.push(face);
             self.corners.insert((face, vertex), i);
         }
-    }
-
-    /// The number of faces on an edge; 0 for a pair that is no edge.
-    pub fn faces_on(&self, edge: Edge) -> usize {
-        self.edges.get(&edge).map_or(0, Vec::len)
     }
 
     /// The number of edges with three or more faces.
