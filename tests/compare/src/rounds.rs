@@ -41,14 +41,14 @@ fn round(seed: u64, with_program: bool, tally: &mut Tally) {
         &origin,
     );
     round_trip(&list, &origin, tally);
-    if seed % TOO_LONG_EVERY == 0 {
+    if seed.is_multiple_of(TOO_LONG_EVERY) {
         let mesh = too_long(&mut chance);
         tally.count_list();
         for case in list_cases(&mesh.list, mesh.n, &mut chance) {
             tally.try_case(&case, &origin);
         }
     }
-    if with_program && seed % PROGRAM_EVERY == 0 {
+    if with_program && seed.is_multiple_of(PROGRAM_EVERY) {
         let way = chance.below(3) as u64;
         let valid = text_of(&list, &mut chance);
         for text in [&text, &valid] {

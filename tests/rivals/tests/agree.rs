@@ -7,14 +7,6 @@ use lists::meshes::{polygon_repeating, FAMILIES};
 /// Answer, new list, map and work of a cut, with garbage in the buffers before.
 type Cut = ([u64; 7], Vec<i32>, Vec<i32>, Vec<u32>);
 
-fn by_second(list: &[i32], n: u64) -> Cut {
-    cut_with(list, second::cut, n)
-}
-
-fn by_unchecked(list: &[i32], n: u64) -> Cut {
-    cut_with(list, rivals::unchecked::cut, n)
-}
-
 type Call = fn(&[i32], u64, &mut [i32], &mut [i32], &mut [u32]) -> [u64; 7];
 
 fn cut_with(list: &[i32], call: Call, n: u64) -> Cut {
@@ -26,8 +18,10 @@ fn cut_with(list: &[i32], call: Call, n: u64) -> Cut {
 }
 
 fn agree(list: &[i32], n: u64) {
-    let expected = by_second(list, n);
-    assert_eq!(expected, by_unchecked(list, n), "{list:?} {n}");
+    let expected = cut_with(list, second::cut, n);
+    for call in [rivals::unchecked::cut, rivals::unchecked::cut_by_digits] {
+        assert_eq!(expected, cut_with(list, call, n), "{list:?} {n}");
+    }
     let (answer, new_list, map, _) = expected;
     match rivals::baseline::cut(list, n as usize) {
         Err(refusal) => assert_eq!(
