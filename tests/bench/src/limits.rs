@@ -83,7 +83,7 @@ fn most_of(call: &'static str, meshes: &[(String, Mesh)]) -> Most {
     for (name, mesh) in meshes {
         let mut subject = Subject::new(mesh);
         stack = stack.max(used(&mut || subject.call(call)));
-        let milliseconds = time(&mut || subject.call(call)).least / 1e6;
+        let milliseconds = time(|| subject.call(call)).least / 1e6;
         if slowest.1 < milliseconds {
             slowest = (name.clone(), milliseconds);
         }

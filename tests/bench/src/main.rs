@@ -3,6 +3,7 @@
 //! `bench [FOLDER]` writes BENCHMARK.md and benchmark.svg there; without a folder, in the
 //! repository's `docs`. What stands in BENCHMARK.md from the line "## Notes" on is kept.
 
+mod clock;
 mod limits;
 mod measure;
 mod plot;

@@ -1,8 +1,8 @@
 //! Times the cut of one mesh by the product and by each of its rivals, in turns.
 
+use crate::clock::now;
 use lists::meshes::Mesh;
 use std::hint::black_box;
-use std::time::Instant;
 
 /// How many cut.
 pub const WHO: usize = 5;
@@ -37,8 +37,13 @@ impl Who {
     }
 }
 
-/// The turns that each takes; a turn is some calls in a row.
-const TURNS: usize = 31;
+/// The fewest and the most turns that each takes; a turn is some calls in a row.
+const FEWEST_TURNS: usize = 31;
+const MOST_TURNS: usize = 200;
+
+/// Turns are taken until none has been quicker than all before it by so much, for so many rounds.
+const QUICKER: f64 = 0.995;
+const CALM_ROUNDS: usize = 15;
 
 /// A turn takes at least about so long.
 const TURN_NS: f64 = 400_000.0;
@@ -97,18 +102,13 @@ fn cut(who: Who, mesh: &Mesh, buffers: &mut Buffers) -> u64 {
     }
 }
 
-/// One cut whose answer is not looked at.
-fn call(who: Who, mesh: &Mesh, buffers: &mut Buffers) {
-    black_box(cut(who, black_box(mesh), buffers));
-}
-
 /// Nanoseconds of some calls in a row.
 fn turn(calls: usize, call: &mut dyn FnMut()) -> f64 {
-    let start = Instant::now();
+    let start = now();
     for _ in 0..calls {
         call();
     }
-    start.elapsed().as_nanos() as f64
+    now() - start
 }
 
 /// How many calls make a turn.
@@ -123,6 +123,31 @@ fn calls_in_turn(call: &mut dyn FnMut()) -> usize {
     }
 }
 
+/// The times of some calls that take turns, so that whatever else the machine does falls on all
+/// alike. The turns go on until the quickest of each stays what it is.
+fn times_in_turns<const N: usize>(mut call: impl FnMut(usize)) -> [Time; N] {
+    let mut calls = [0; N];
+    for (who, calls) in calls.iter_mut().enumerate() {
+        *calls = calls_in_turn(&mut || call(who));
+    }
+    let mut turns: [Vec<f64>; N] = std::array::from_fn(|_| Vec::new());
+    let mut least = [f64::MAX; N];
+    let (mut round, mut calm) = (0, 0);
+    while round < FEWEST_TURNS || (calm < CALM_ROUNDS && round < MOST_TURNS) {
+        calm += 1;
+        for who in 0..N {
+            let time = turn(calls[who], &mut || call(who)) / calls[who] as f64;
+            turns[who].push(time);
+            if time < least[who] * QUICKER {
+                calm = 0;
+            }
+            least[who] = least[who].min(time);
+        }
+        round += 1;
+    }
+    turns.map(time_of)
+}
+
 fn time_of(mut turns: Vec<f64>) -> Time {
     turns.sort_by(f64::total_cmp);
     Time {
@@ -131,25 +156,16 @@ fn time_of(mut turns: Vec<f64>) -> Time {
     }
 }
 
-/// The times of all for one mesh, in the order of `Who::ALL`. They take turns, so that whatever
-/// else the machine does falls on all alike.
+/// The times of all who cut for one mesh, in the order of `Who::ALL`.
 pub fn times(mesh: &Mesh) -> [Time; WHO] {
     let mut buffers = Buffers::new(mesh);
-    let calls = Who::ALL.map(|who| calls_in_turn(&mut || call(who, mesh, &mut buffers)));
-    let mut turns = Who::ALL.map(|_| Vec::new());
-    for _ in 0..TURNS {
-        for who in Who::ALL {
-            let calls = calls[who as usize];
-            let time = turn(calls, &mut || call(who, mesh, &mut buffers));
-            turns[who as usize].push(time / calls as f64);
-        }
-    }
-    turns.map(time_of)
+    times_in_turns(|who| {
+        black_box(cut(Who::ALL[who], black_box(mesh), &mut buffers));
+    })
 }
 
 /// The time of any one call.
-pub fn time(call: &mut dyn FnMut()) -> Time {
-    let calls = calls_in_turn(call);
-    let turns = (0..TURNS).map(|_| turn(calls, call) / calls as f64);
-    time_of(turns.collect())
+pub fn time(mut call: impl FnMut()) -> Time {
+    let [time] = times_in_turns(|_| call());
+    time
 }

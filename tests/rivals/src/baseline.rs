@@ -1,7 +1,8 @@
-//! The cut with a `HashMap` of edges and union-find, as a good Rust programmer would first write it.
+//! The cut with a `HashMap` of edges, a `HashSet` of each face's indices and union-find, as a good
+//! Rust programmer would first write it.
 
 use crate::LIMIT;
-use std::collections::HashMap;
+use std::collections::{HashMap, HashSet};
 
 /// A refusal: its code and its place.
 #[derive(Debug, PartialEq, Eq)]
@@ -60,14 +61,14 @@ fn corners_of(list: &[i32], n: usize) -> Result<(Vec<Corner>, usize), Refusal> {
         return Err(Refusal { code: 2, place: 0 });
     }
     let mut corners = Vec::with_capacity(list.len());
-    let mut seen_in = vec![usize::MAX; n];
+    let mut seen = HashSet::new();
     let mut faces = 0;
     let mut start = 0;
     while start < list.len() {
         let rest = &list[start..];
         let length = rest.iter().position(|&entry| entry == -1);
         let face = &rest[..length.unwrap_or(rest.len())];
-        check_face(face, start, faces, &mut seen_in)?;
+        check_face(face, start, n, &mut seen)?;
         let first = corners.len();
         for (i, &vertex) in face.iter().enumerate() {
             let next = first + (i + 1) % face.len();
@@ -79,14 +80,14 @@ fn corners_of(list: &[i32], n: usize) -> Result<(Vec<Corner>, usize), Refusal> {
     Ok((corners, faces))
 }
 
-/// Refuses a face by 3, 4 or 5.
+/// Refuses a face by 3, 4 or 5; `seen` is only lent for its room.
 fn check_face(
     face: &[i32],
     start: usize,
-    number: usize,
-    seen_in: &mut [usize],
+    n: usize,
+    seen: &mut HashSet<i32>,
 ) -> Result<(), Refusal> {
-    let outside = |&entry: &i32| entry < 0 || entry as usize >= seen_in.len();
+    let outside = |&entry: &i32| entry < 0 || entry as usize >= n;
     if let Some(i) = face.iter().position(outside) {
         let place = start + i;
         return Err(Refusal { code: 3, place });
@@ -95,12 +96,10 @@ fn check_face(
         let place = start;
         return Err(Refusal { code: 4, place });
     }
-    for (i, &vertex) in face.iter().enumerate() {
-        if seen_in[vertex as usize] == number {
-            let place = start + i;
-            return Err(Refusal { code: 5, place });
-        }
-        seen_in[vertex as usize] = number;
+    seen.clear();
+    if let Some(i) = face.iter().position(|&vertex| !seen.insert(vertex)) {
+        let place = start + i;
+        return Err(Refusal { code: 5, place });
     }
     Ok(())
 }
