@@ -88,6 +88,8 @@ pub struct Case {
 pub struct Verdict {
     /// The second program's code.
     pub code: usize,
+    /// All numbers that the second program answers; none for the program.
+    pub answer: Vec<u64>,
     /// What differs, in words.
     pub differences: Vec<String>,
 }
@@ -101,12 +103,15 @@ impl Verdict {
             ));
         }
         // showing a face answers a span and no code
-        let code = if call == Call::Face {
-            0
-        } else {
-            second[0] as usize
+        let code = match call {
+            Call::Face => 0,
+            _ => second[0] as usize,
         };
-        Verdict { code, differences }
+        Verdict {
+            code,
+            answer: second.to_vec(),
+            differences,
+        }
     }
 
     /// Compares a buffer after both calls, guards included.
@@ -264,6 +269,7 @@ impl Case {
         }
         Verdict {
             code: code.parse().expect("a code stands first"),
+            answer: Vec::new(),
             differences,
         }
     }

@@ -169,10 +169,10 @@ pub fn bench_set(tally: &mut Tally) {
     }
 }
 
-/// Lists at the limits: 65,535 to 65,537 entries, and vertex counts about 65,536.
+/// Lists at the limits: 65,535 to 65,537 entries and far more, and vertex counts about 65,536.
 pub fn lists_at_limits(tally: &mut Tally) {
     let mut chance = Chance::new(1);
-    for length in [LIMIT - 1, LIMIT, LIMIT + 1] {
+    for length in [LIMIT - 1, LIMIT, LIMIT + 1, 3 * LIMIT] {
         let lists = [
             vec![-1; length],
             vec![0; length],

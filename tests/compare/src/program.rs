@@ -41,7 +41,7 @@ pub fn run(input: &[u8], way: Way) -> Result<Vec<u8>, String> {
     let printed = match way {
         Way::File => run_on_file(input),
         Way::Pipe => run_on_pieces(input, input.len().max(1), Duration::ZERO),
-        Way::Pieces => run_on_pieces(input, (input.len() / 3).max(1), Duration::from_millis(2)),
+        Way::Pieces => run_on_pieces(input, (input.len() / 4).max(1), Duration::from_millis(2)),
     };
     printed.map_err(|error| format!("{}: {error}", path().display()))
 }

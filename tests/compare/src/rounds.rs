@@ -15,7 +15,8 @@ const TOO_LONG_EVERY: u64 = 2_000;
 
 /// The rounds of all seeds from `seed` on.
 pub fn run(seed: u64, count: u64, with_program: bool, tally: &mut Tally) {
-    for seed in seed..seed + count {
+    for i in 0..count {
+        let seed = seed.wrapping_add(i);
         if tally.is_over() {
             return;
         }

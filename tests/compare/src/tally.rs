@@ -18,6 +18,8 @@ const SHOWN: usize = 2_000;
 pub struct Tally {
     met: [[u64; CODES]; Call::ALL.len()],
     lists: u64,
+    /// Accepted cuts with a singular edge, and with singular vertices alone.
+    singular: [u64; 2],
     failures: usize,
 }
 
@@ -34,6 +36,11 @@ impl Tally {
         }
         let verdict = crash::during(origin, || case.verdict());
         self.met[case.call as usize][verdict.code] += 1;
+        if case.call == Call::Cut {
+            let (edges, vertices) = (verdict.answer[5], verdict.answer[6]);
+            self.singular[0] += u64::from(0 < edges);
+            self.singular[1] += u64::from(0 == edges && 0 < vertices);
+        }
         if !verdict.differences.is_empty() {
             let smallest = crash::during(origin, || shrink(case));
             let differences = smallest.verdict().differences.join("; ");
@@ -85,6 +92,8 @@ impl Tally {
             .map(|code| format!("{code}: {}", of_code(code)))
             .collect();
         println!("codes met by all calls: {}", words.join(", "));
+        let [with_edges, isolated] = self.singular;
+        println!("accepted cuts with singular edges: {with_edges}, with isolated singular vertices alone: {isolated}");
         let cases: u64 = (0..CODES).map(of_code).sum();
         println!(
             "{} lists, {cases} cases, {} differences",
