@@ -139,7 +139,7 @@ pub fn page(results: &Results, load: &str, notes: &str) -> String {
         "## Times the same algorithm in Rust, unchecked\n".to_string(),
         by_size(results, to_unchecked, |size| results.mean_ratio(Who::Product, Who::Unchecked, size), 2),
         "## Each call at 65,536 entries\n".to_string(),
-        "The longest time over all families and a 65,536-gon that repeats an index at its end, and the deepest stack, measured by painting it (the frame of the Rust function that calls is within it; below 4,096 bytes it is not measured more finely). The program reads at most 1,024 entries, the library 65,536. Reading and writing is of the list's text; the edge question asks for the edge between 0 and 1; showing a face asks for one behind the last.\n".to_string(),
+        "The longest time over all families and a 65,536-gon that repeats an index at its end, and the deepest stack, measured by painting it (the frames of the Rust functions that call, some hundred bytes, are within it). The program reads at most 1,024 entries, the library 65,536. Reading and writing is of the list's text; the edge question asks for the edge between 0 and 1; showing a face asks for one behind the last.\n".to_string(),
         limits(results),
         notes.to_string(),
     ]

@@ -10,7 +10,7 @@ const PAINTED: usize = 4 << 20;
 const STACK: usize = 16 << 20;
 
 /// The words next to the frame at hand stay as they are.
-const MARGIN: usize = 4_096;
+const MARGIN: usize = 512;
 
 const PAINT: u64 = 0x5a5a_a5a5_1234_8765;
 
