@@ -45,7 +45,7 @@ pub fn inputs(tally: &mut Tally) {
     }
 }
 
-/// A list of triangles with so many entries, the last face perhaps cut short.
+/// A list of three-cornered faces with so many entries, the last face perhaps cut short.
 fn strip(entries: usize) -> String {
     let entry = |i: usize| match i % 4 {
         3 => "-1".to_string(),

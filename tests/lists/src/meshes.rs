@@ -128,7 +128,7 @@ fn sides(cells: usize, least: usize) -> (usize, usize) {
     (width, (cells / width).max(least))
 }
 
-/// A torus of triangles: closed, every edge regular.
+/// A torus of three-cornered faces: closed, every edge regular.
 pub fn torus(entries: usize) -> Mesh {
     let (width, height) = sides(entries / 8, 3);
     let at = |x: usize, y: usize| (y % height * width + x % width) as i32;
@@ -228,7 +228,7 @@ fn fan_faces(count: usize) -> Vec<Vec<i32>> {
     (0..count as i32).map(face).collect()
 }
 
-/// A fan of triangles round one vertex, as many as 16,384 with its two rims.
+/// A fan of faces round one vertex, as many as 16,384; its two ends are rims.
 pub fn fan(entries: usize) -> Mesh {
     mesh(&fan_faces(entries / 4))
 }
@@ -300,12 +300,12 @@ pub fn polygon_repeating(entries: usize) -> Mesh {
     mesh
 }
 
-/// Random triangles, about six at a vertex, so that edges of all kinds are met.
+/// Random three-cornered faces, about six at a vertex, so that edges of all kinds are met.
 pub fn soup(entries: usize) -> Mesh {
     soup_on(entries, (entries / 8).max(4), 5)
 }
 
-/// Random triangles on `n` vertices; neighbours in number meet more often.
+/// Random three-cornered faces on `n` vertices; neighbours in number meet more often.
 fn soup_on(entries: usize, n: usize, seed: u64) -> Mesh {
     let mut chance = Chance::new(seed);
     let near = n.min(8);
@@ -322,13 +322,13 @@ fn soup_on(entries: usize, n: usize, seed: u64) -> Mesh {
     mesh
 }
 
-/// Triangles that have nothing in common.
+/// Faces that have nothing in common.
 pub fn loose(entries: usize) -> Mesh {
     let face = |i: i32| vec![3 * i, 3 * i + 1, 3 * i + 2];
     mesh(&(0..(entries / 4) as i32).map(face).collect::<Vec<_>>())
 }
 
-/// Random triangles on the multiples of 256: every index, and so every edge, has the same low byte.
+/// Random faces on the multiples of 256: every index, and so every edge, has the same low byte.
 fn same_low_byte(entries: usize) -> Mesh {
     let mut mesh = soup_on(entries, 256, 6);
     for entry in mesh.list.iter_mut().filter(|entry| 0 <= **entry) {
@@ -347,7 +347,7 @@ fn same_sum(entries: usize) -> Mesh {
     mesh(&(0..count).map(quad).collect::<Vec<_>>())
 }
 
-/// A strip of triangles between i and i with all its bits turned: an edge's indices differ in every
+/// A strip of faces between i and i with all its bits turned: an edge's indices differ in every
 /// bit, or in the lowest alone.
 fn same_xor(entries: usize) -> Mesh {
     let turned = |i: i32| i ^ (LIMIT as i32 - 1);
