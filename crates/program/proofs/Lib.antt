@@ -5,3 +5,4 @@ pub mod Cutting
 pub mod Answering
 pub mod Cases
 pub mod Codes
+pub mod Determined
