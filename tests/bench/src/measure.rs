@@ -11,7 +11,7 @@ pub const WHO: usize = 5;
 #[derive(Clone, Copy, PartialEq, Eq)]
 pub enum Who {
     Product,
-    Unchecked,
+    TwoPasses,
     FourPasses,
     Baseline,
     Touch,
@@ -20,7 +20,7 @@ pub enum Who {
 impl Who {
     pub const ALL: [Who; WHO] = [
         Who::Product,
-        Who::Unchecked,
+        Who::TwoPasses,
         Who::FourPasses,
         Who::Baseline,
         Who::Touch,
@@ -29,7 +29,7 @@ impl Who {
     pub fn name(self) -> &'static str {
         match self {
             Who::Product => "product",
-            Who::Unchecked => "Rust, unchecked",
+            Who::TwoPasses => "Rust, two passes",
             Who::FourPasses => "Rust, four passes",
             Who::Baseline => "HashMap",
             Who::Touch => "one touch",
@@ -89,7 +89,7 @@ fn cut(who: Who, mesh: &Mesh, buffers: &mut Buffers) -> u64 {
     } = buffers;
     match who {
         Who::Product => product::cut(list, *n, new_list, map, work)[4],
-        Who::Unchecked => rivals::unchecked::cut(list, *n, new_list, map, work)[4],
+        Who::TwoPasses => rivals::unchecked::cut(list, *n, new_list, map, work)[4],
         Who::FourPasses => rivals::unchecked::cut_by_digits(list, *n, new_list, map, work)[4],
         Who::Baseline => match rivals::baseline::cut(list, *n as usize) {
             Ok(cut) => black_box(cut).map.len() as u64,

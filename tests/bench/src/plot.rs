@@ -20,7 +20,7 @@ const STYLE: &str = "text{font:13px sans-serif;fill:#222}.title{font-size:15px;f
 fn colour(who: Who) -> &'static str {
     match who {
         Who::Product => "#0b6e4f",
-        Who::Unchecked => "#e08e0b",
+        Who::TwoPasses => "#e08e0b",
         Who::FourPasses => "#2a78c8",
         Who::Baseline => "#8a2be2",
         Who::Touch => "#888888",
@@ -86,7 +86,7 @@ fn point(who: Who, x: f64, y: f64) -> String {
     let fill = colour(who);
     let shape = match who {
         Who::Product => format!("<circle cx=\"{x:.1}\" cy=\"{y:.1}\" r=\"5\""),
-        Who::Unchecked => format!(
+        Who::TwoPasses => format!(
             "<path d=\"M{:.1} {y:.1}L{x:.1} {:.1}L{:.1} {y:.1}L{x:.1} {:.1}Z\"",
             x - 5.0,
             y - 5.0,

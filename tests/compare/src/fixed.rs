@@ -182,7 +182,7 @@ pub fn lists_at_limits(tally: &mut Tally) {
             (0..length as i32).rev().collect(),
         ];
         for list in lists {
-            for n in [0, 65_535, 65_536, 65_537, tight(&list), u64::MAX] {
+            for n in [0, tight(&list), 65_536, 65_537] {
                 tally.count_list();
                 for case in list_cases(&list, n, &mut chance) {
                     tally.try_case(&case, "lists at the limits");

@@ -5,6 +5,9 @@ use lists::chance::Chance;
 /// The guard words before and behind a lent part.
 const GUARD: usize = 8;
 
+/// Garbage comes again after so many words, a prime, so that it fits no part of a buffer.
+const GARBAGE: usize = 251;
+
 /// Anything a buffer holds.
 pub trait Word: Copy + PartialEq {
     fn from_bits(bits: u64) -> Self;
@@ -37,8 +40,10 @@ pub struct Lent<T> {
 impl<T: Word> Lent<T> {
     /// A buffer of some length, all of it garbage.
     pub fn garbage(length: usize, chance: &mut Chance) -> Lent<T> {
-        let memory = (0..length + 2 * GUARD).map(|_| T::from_bits(chance.word()));
-        let product: Vec<T> = memory.collect();
+        let length = length + 2 * GUARD;
+        let words = (0..length.min(GARBAGE)).map(|_| T::from_bits(chance.word()));
+        let garbage: Vec<T> = words.collect();
+        let product: Vec<T> = garbage.iter().copied().cycle().take(length).collect();
         let second = product.clone();
         Lent { product, second }
     }
