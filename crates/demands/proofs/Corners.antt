@@ -17,8 +17,8 @@ use lib.ListN.{length, getD, length-append, length-map, List·getD-append}
 use lib.Seq.{getD-append-add}
 use Rattle.list.specs.Faces.{runs, num, vertices, corners}
 use Rattle.list.specs.Check.{ValidFace, Valid}
-use Rattle.edges.specs.Uses.{Use, usesOfFace, usesFrom, uses}
-use Rattle.edges.proofs.Uses.{noUse, use-in, joined, corners-joined, nextIn, next-inside, uses-face-long, uses-long, from-at, to-next, next-below}
+use Rattle.edges.specs.Uses.{Use, usesOfFace, usesFrom, uses, nextIn}
+use Rattle.edges.proofs.Uses.{noUse, use-in, joined, corners-joined, next-inside, uses-face-long, uses-long, from-at, to-next, next-below}
 use Rattle.edges.proofs.Faces.{use-proper, vertex-once, face-long}
 use Rattle.demands.specs.Renumbered.{Corner, vertexAt}
 use Rattle.demands.specs.Linked.{useAt}

@@ -1,4 +1,4 @@
--- The order, sentence by sentence, for every list that the check accepts. A corner stands for its face at its vertex: a face has a vertex
+-- Demands 2 and 3 of the order, sentence by sentence, for every list that the check accepts (`Demand1` has the first). A corner stands for its face at its vertex: a face has a vertex
 -- at one corner only.
 use Prim.Native.Nat.{ℕ, _≤_, _<_}
 use mathlib.Core.Path.{_≡_, refl, sym, _∙_, ap}
@@ -13,6 +13,9 @@ use Rattle.list.specs.Check.{Valid}
 use Rattle.list.specs.declared.CheckAnswer.{CheckAnswer}
 use Rattle.list.proofs.Given.{accepted-exactly-when, accepted-counts}
 use Rattle.list.proofs.Checking.{faces-long}
+use Rattle.list.specs.Limits.{maxEntries}
+use Rattle.text.specs.Writing.{AllFit}
+use Rattle.text.proofs.RoundTrip.{ReadsBack, round-trip}
 use Rattle.edges.specs.Choose.{count}
 use Rattle.edges.specs.Uses.{Use, uses, facesOn, singularEdges}
 use Rattle.edges.proofs.Faces.{hasEdge, uses-are-faces}
@@ -35,6 +38,11 @@ use Rattle.demands.proofs.Fewest as Fewest
 use Rattle.demands.proofs.Classes as Classes
 use Rattle.demands.proofs.Counts as Counts
 use Rattle.demands.proofs.Only as Only
+
+-- Demand 2: "the text form of every list of permitted length reads back as that list", into a list with room; every entry of a list of
+-- 32-bit integers fits
+pub text-reads-back : (l buffer : List ℤ) → length l ≤ maxEntries → AllFit l → length l ≤ length buffer → ReadsBack l buffer
+text-reads-back = round-trip
 
 module _ (l : List ℤ) (n : ℕ) (accepted : Accepted l n) where
   valid : Valid l n

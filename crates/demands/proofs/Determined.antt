@@ -11,6 +11,13 @@ use Rattle.list.proofs.vertex_at.Reads as vertex-at
 use Rattle.list.proofs.check.Reads as check
 use Rattle.list.proofs.face_span.Reads as face-span
 use Rattle.list.proofs.face.Reads as face
+use Rattle.text.proofs.read.Reads as read
+use Rattle.text.proofs.write.Reads as write
+use Rattle.text.proofs.number.read_number.Reads as read-number
+use Rattle.edges.proofs.faces_on.Reads as faces-on
+use Rattle.edges.proofs.edge_table.Reads as edge-table
+use Rattle.cut.proofs.classes.Reads as classes
+use Rattle.cut.proofs.cut.Reads as cut
 
 coincide : {A : Type 0} {x y z : A} → x ≡ z → y ≡ z → x ≡ y
 coincide p q = p ∙ sym q
@@ -39,3 +46,28 @@ face-span-determined κs a r₁ r₂ s₁ s₂ p q = coincide p q
 
 pub face-determined : (κs : Lfts 1) (a : _) (r₁ r₂ : _) (s₁ s₂ : _) → face.Learnt κs a r₁ s₁ → face.Learnt κs a r₂ s₂ → now r₁ ≡ now r₂
 face-determined κs a r₁ r₂ s₁ s₂ p q = coincide p q
+
+-- text
+pub read-number-determined : (κs : Lfts 1) (a : _) (r₁ r₂ : _) (s₁ s₂ : _) → read-number.Learnt κs a r₁ s₁ → read-number.Learnt κs a r₂ s₂ → r₁ ≡ r₂
+read-number-determined κs a r₁ r₂ s₁ s₂ p q = coincide p q
+
+pub read-determined : (κs : Lfts 2) (a : _) (r₁ r₂ : _) (s₁ s₂ : _) → read.Learnt κs a r₁ s₁ → read.Learnt κs a r₂ s₂ → (r₁ ≡ r₂) × (now (s₁ .1 .0) ≡ now (s₂ .1 .0))
+read-determined κs a r₁ r₂ s₁ s₂ p q = (coincide (p .0) (q .0), coincide (p .1) (q .1))
+
+pub write-determined : (κs : Lfts 2) (a : _) (r₁ r₂ : _) (s₁ s₂ : _) → write.Learnt κs a r₁ s₁ → write.Learnt κs a r₂ s₂ → (r₁ ≡ r₂) × (now (s₁ .1 .0) ≡ now (s₂ .1 .0))
+write-determined κs a r₁ r₂ s₁ s₂ p q = (coincide (p .0) (q .0), coincide (p .1) (q .1))
+
+-- edges
+pub faces-on-determined : (κs : Lfts 1) (a : _) (r₁ r₂ : _) (s₁ s₂ : _) → faces-on.Learnt κs a r₁ s₁ → faces-on.Learnt κs a r₂ s₂ → r₁ ≡ r₂
+faces-on-determined κs a r₁ r₂ s₁ s₂ p q = coincide p q
+
+pub edge-table-determined : (κs : Lfts 2) (a : _) (r₁ r₂ : _) (s₁ s₂ : _) → edge-table.Learnt κs a r₁ s₁ → edge-table.Learnt κs a r₂ s₂ → (r₁ ≡ r₂) × (now (s₁ .1 .1 .0) ≡ now (s₂ .1 .1 .0))
+edge-table-determined κs a r₁ r₂ s₁ s₂ p q = (coincide (p .1) (q .1), coincide (p .0) (q .0))
+
+-- cut: the answer and each lent buffer
+pub classes-determined : (κs : Lfts 3) (a : _) (r₁ r₂ : _) (s₁ s₂ : _) → classes.Learnt κs a r₁ s₁ → classes.Learnt κs a r₂ s₂ → (r₁ ≡ r₂) × (now (s₁ .1 .1 .0) ≡ now (s₂ .1 .1 .0)) × (now (s₁ .1 .1 .1 .0) ≡ now (s₂ .1 .1 .1 .0))
+classes-determined κs a r₁ r₂ s₁ s₂ p q = (coincide (p .0) (q .0), coincide (p .1 .0) (q .1 .0), coincide (p .1 .1) (q .1 .1))
+
+pub cut-determined : (κs : Lfts 4) (a : _) (r₁ r₂ : _) (s₁ s₂ : _) → cut.Learnt κs a r₁ s₁ → cut.Learnt κs a r₂ s₂ → (r₁ ≡ r₂) × (now (s₁ .1 .1 .0) ≡ now (s₂ .1 .1 .0)) × (now (s₁ .1 .1 .1 .0) ≡ now (s₂ .1 .1 .1 .0)) × (now (s₁ .1 .1 .1 .1 .0) ≡ now (s₂ .1 .1 .1 .1 .0))
+cut-determined κs a r₁ r₂ s₁ s₂ p q =
+    (coincide (p .0) (q .0), coincide (p .1 .0) (q .1 .0), coincide (p .1 .1 .0) (q .1 .1 .0), coincide (p .1 .1 .1) (q .1 .1 .1))

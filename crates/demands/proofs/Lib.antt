@@ -1,6 +1,7 @@
 pub mod Bench
 pub mod Determined
 pub mod Refusals
+pub mod Demand1
 pub mod RuledOut
 pub mod Equivalence
 pub mod Walk

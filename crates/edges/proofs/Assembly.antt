@@ -16,7 +16,7 @@ use Rattle.list.specs.Check.{Valid}
 use Rattle.edges.specs.Choose.{choose, count, All, upFrom}
 use Rattle.edges.specs.Uses.{Use, uses, hi, onEdge, mateAmong, startsMany, startsSingular, singularEdges}
 use Rattle.edges.specs.Table.{nextWords, vertexWords, mateWord, mateWords, tableOf}
-use Rattle.edges.specs.Sort.{keyOf, part, Kept, digitIs, Sorted, Arranged, keyAt, Ordered}
+use Rattle.edges.specs.Sort.{keyOf, part, Kept, digitIs, Sorted, Arranged, keyAt, KeysBelow, Ordered}
 use Rattle.edges.specs.Runs.{sameKey, wordBy, startsBy, MateReady, RightAt}
 use Rattle.edges.proofs.Lists.{all-in, all-map, choose-same, choose-map, upFrom-in, from-table}
 use Rattle.edges.proofs.Uses.{noUse, useAt, corner-at}
@@ -69,6 +69,14 @@ module _ (l : List ℤ) (n : ℕ) (v : Valid l n) where
       sym (length-map (choose (λ (e : ℕ). startsSingular (uses l) (useAt l e)) (upFrom 0 (length (uses l)))) (useAt l)) ∙
       ap length (sym (choose-map (startsSingular (uses l)) (useAt l) (upFrom 0 (length (uses l))))) ∙
       ap (λ (us : List Use). length (choose (startsSingular (uses l)) us)) (from-table noUse (uses l))
+
+-- both vertices of each key written are below the vertex count
+pub keys-below : (l : List ℤ) (n c : ℕ) (w : List ℕ) → Valid l n → length (uses l) ≡ c → part 0 c w ≡ map keyOf (uses l) → KeysBelow c n w
+keys-below l n c w v u k e h =
+    let q : e < length (uses l) = rw u h in
+    let p = use-proper l n v e q in
+    let x : keyAt w e ≡ keyOf (useAt l e) = sym (getD-part 0 c w e h ∙ rw zero-add) ∙ ap (λ (xs : List ℕ). getD xs e 0) k ∙ key-at l n v e in
+    (omega (arith, x, p .from-in, p .to-in, v .few-vertices), omega (arith, x, p .from-in, p .to-in, v .few-vertices))
 
 -- keys that agree on the corners serve alike
 

@@ -7,6 +7,7 @@ pub mod Parts
 pub mod Blocks
 pub mod Scatter
 pub mod Counting
+pub mod Bucket
 pub mod Chain
 pub mod Pairs
 pub mod Filling

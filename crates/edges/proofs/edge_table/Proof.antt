@@ -1,16 +1,17 @@
 -- `edge_table` meets its contract: the keys order the corners, runs of equal keys give the mates, and the four blocks are the table.
 use Prim.Native.Nat.{ℕ, _*_, _/_, _≤_}
 use mathlib.Core.Path.{_≡_, sym, _∙_, ap}
+use mathlib.Core.List.{map}
 use native.Mathlib.Omega.{arith}
 use borrow.Author.Needs.{needs}
 use lib.ListN.{length}
 use denote.Ref.{now}
 use Rattle.list.specs.Limits.{maxEntries}
 use Rattle.edges.specs.Uses.{uses}
-use Rattle.edges.specs.Sort.{part}
+use Rattle.edges.specs.Sort.{keyOf, part}
 use Rattle.edges.proofs.Uses.{uses-long}
 use Rattle.edges.proofs.Walk.{valid-wider, few-corners}
-use Rattle.edges.proofs.Assembly.{ordered-ready, table-singular, table-is}
+use Rattle.edges.proofs.Assembly.{keys-below, ordered-ready, table-singular, table-is}
 use Rattle.edges.proofs.edge_table.Statement.{statement}
 use Rattle.edges.proofs.edge_table.Tie as tie
 
@@ -30,16 +31,20 @@ write-keys-requires c κs =
 long : (k : tie.After-write-keys) → length (k .write-keys .last .1 .0) ≡ 4 * (length (now (k .before .before .before .args .work)) / 4)
 long k = omega (arith, k .write-keys .kept .1 .0, k .before .before .before .pre .1)
 
-by-digits-requires : tie.Need-by-digits-requires
-by-digits-requires c κs =
+keys : (k : tie.After-write-keys) → part 0 (length (now (k .before .before .before .args .work)) / 4) (k .write-keys .last .1 .0) ≡ map keyOf (uses (now (k .before .before .before .args .list)))
+keys k = ap (λ (x : ℕ). part 0 x (k .write-keys .last .1 .0)) (sym (corner-count (k .before .before .before))) ∙ k .write-keys .ensures
+
+by-keys-requires : tie.Need-by-keys-requires
+by-keys-requires c κs =
     let k = c .before .before .before in
-    (long k, few (k .before .before .before))
+    let s = k .before .before .before in
+    (long k, few s, keys-below (now (s .args .list)) (s .args .n) _ (k .write-keys .last .1 .0) (s .pre .0) (corner-count s) (keys k))
 
 write-mates-requires : tie.Need-write-mates-requires
 write-mates-requires c κs =
     let o = c .before .before .before in
     let k = o .before .before .before .before in
-    ordered-ready _ (k .write-keys .last .1 .0) (o .by-digits .last .0) (few (k .before .before .before)) (long k) (o .by-digits .ensures)
+    ordered-ready _ (k .write-keys .last .1 .0) (o .by-keys .last .0) (few (k .before .before .before)) (long k) (o .by-keys .ensures)
 
 write-words-requires : tie.Need-write-words-requires
 write-words-requires c κs =
@@ -47,7 +52,7 @@ write-words-requires c κs =
     let o = m .before .before .before .before in
     let k = o .before .before .before .before in
     let s = k .before .before .before in
-    (valid-wider (now (s .args .list)) (s .args .n) (s .pre .0), corner-count s, omega (arith, m .write-mates .ensures .1 .0 .long, o .by-digits .ensures .long, long k))
+    (valid-wider (now (s .args .list)) (s .args .n) (s .pre .0), corner-count s, omega (arith, m .write-mates .ensures .1 .0 .long, o .by-keys .ensures .long, long k))
 
 mul-clear : tie.Need-mul-clear
 mul-clear c = search needs
@@ -67,10 +72,9 @@ returns c =
     let k = o .before .before .before .before in
     let s = k .before .before .before in
     let l = now (s .args .list) in
-    let count = corner-count s in
-    let keys = ap (λ (x : ℕ). part 0 x (k .write-keys .last .1 .0)) (sym count) ∙ k .write-keys .ensures in (
-      table-is l (s .args .n) _ (s .pre .0) count (k .write-keys .last .1 .0) (o .by-digits .last .0) (m .write-mates .last .0) (w .write-words .last .1 .0) (z .clear .last .0) (long k) keys (o .by-digits .ensures) (m .write-mates .ensures .0) (m .write-mates .ensures .1 .0) (w .write-words .ensures .0) (w .write-words .ensures .1 .0) (w .write-words .ensures .1 .1) (z .clear .ensures .0) (z .clear .ensures .1),
-      table-singular l (s .args .n) _ (s .pre .0) count (k .write-keys .last .1 .0) (o .by-digits .last .0) (m .write-mates .last .0) (w .write-words .last .1 .0) (z .clear .last .0) (long k) keys (o .by-digits .ensures) (m .write-mates .ensures .0) (m .write-mates .ensures .1 .0) _ (m .write-mates .ensures .1 .1),
+    let count = corner-count s in (
+      table-is l (s .args .n) _ (s .pre .0) count (k .write-keys .last .1 .0) (o .by-keys .last .0) (m .write-mates .last .0) (w .write-words .last .1 .0) (z .clear .last .0) (long k) (keys k) (o .by-keys .ensures) (m .write-mates .ensures .0) (m .write-mates .ensures .1 .0) (w .write-words .ensures .0) (w .write-words .ensures .1 .0) (w .write-words .ensures .1 .1) (z .clear .ensures .0) (z .clear .ensures .1),
+      table-singular l (s .args .n) _ (s .pre .0) count (k .write-keys .last .1 .0) (o .by-keys .last .0) (m .write-mates .last .0) (w .write-words .last .1 .0) (z .clear .last .0) (long k) (keys k) (o .by-keys .ensures) (m .write-mates .ensures .0) (m .write-mates .ensures .1 .0) _ (m .write-mates .ensures .1 .1),
     )
 
 pub edge-table-spec : {M : Type 1} → statement M
@@ -78,7 +82,7 @@ edge-table-spec =
     tie.close
     (tie.spec
     write-keys-requires
-    by-digits-requires
+    by-keys-requires
     write-mates-requires
     write-words-requires
     mul-clear

@@ -21,9 +21,14 @@ check-requires c κs = search needs
 code : (c : tie.After-check) → checkOf (now (c .before .args .list)) (c .before .args .n) .code ≡ c .check .result .code
 code c = sym (ap (λ (r : CheckAnswer). r .code) (c .check .ensures))
 
+refused-requires : tie.Need-refused-requires
+refused-requires c κs = search needs
+
 returns : tie.Need-returns
-returns c =
+returns d =
+    let c = d .before in
     let s = c .before .before in
+    d .refused .ensures ∙
     ap (λ (r : CheckAnswer). edgeAnswer (r .code) (r .place) 0) (c .before .check .ensures) ∙ edge-refused (now (s .args .list)) (s .args .n) (s .args .a) (s .args .b) (λ e. c .if1 .taken (sym (code (c .before)) ∙ e))
 
 is-pair-requires : tie.Need-is-pair-requires
@@ -35,10 +40,15 @@ pair c =
     let s = c .before .before .before in
     sym (c .is-pair .ensures ∙ ap₂ (isPair (s .args .n)) (toZ-ofZ w32 (s .args .a) (s .fits .a)) (toZ-ofZ w32 (s .args .b) (s .fits .b)))
 
+refused-requires-2 : tie.Need-refused-requires-2
+refused-requires-2 c κs = search needs
+
 returns-2 : tie.Need-returns-2
-returns-2 c =
+returns-2 d =
+    let c = d .before in
     let e = c .before .before in
     let s = e .before .before in
+    d .refused2 .ensures ∙
     edge-no-pair (now (s .args .list)) (s .args .n) (s .args .a) (s .args .b) (code (e .before) ∙ e .if1 .left) (pair (c .before) ∙ not-true _ (c .if2 .taken))
 
 number-requires : tie.Need-number-requires
@@ -64,8 +74,10 @@ faces-on-spec =
     tie.close
     (tie.spec
     check-requires
+    refused-requires
     returns
     is-pair-requires
+    refused-requires-2
     returns-2
     number-requires
     number-requires-2
