@@ -8,7 +8,7 @@ use mathlib.Core.Bool.{Bool, true, false, cond}
 use lib.IntN.{ℤ, pos, natAbs}
 use lib.ListN.{length, drop, getD, set, length-append, length-set, drop-of-length-le}
 use lib.Seq.{drop-cons}
-use Rattle.text.specs.Bytes.{minusByte, openByte, closeByte}
+use Rattle.text.specs.Bytes.{space, comma, minusByte, openByte, closeByte}
 use Rattle.text.specs.Writing.{width, lowDigits, isNegative, entryText, joint, itemText, entriesText, written}
 use Rattle.text.specs.Steps.{put}
 use Rattle.text.proofs.Putting.{digits-length, put-length, put-byte, put-behind}
@@ -33,7 +33,7 @@ module _ (l : List ℤ) (i : ℕ) (h : i < length l) where
   pub entries-at-place : entriesText (drop i l) ≡ itemText (drop i l) ++ entriesText (drop (i + 1) l)
   entries-at-place = rw (drop-cons l i (pos 0) h, add-one i)
 
-  pub item-joined : i + 1 < length l → itemText (drop i l) ≡ entryText (getD l i (pos 0)) ++ (44 ∷ 32 ∷ [])
+  pub item-joined : i + 1 < length l → itemText (drop i l) ≡ entryText (getD l i (pos 0)) ++ (comma ∷ space ∷ [])
   item-joined k =
       let k′ : suc i < length l = omega arith in
       item-at-place ∙ rw (drop-cons l (suc i) (pos 0) k′)
@@ -48,15 +48,15 @@ module _ (l : List ℤ) (i : ℕ) (h : i < length l) where
   -- the entry has been put at place at, and its comma and its space follow
   pub item-put : (at q : ℕ) (t t′ : List ℕ) → i + 1 < length l → at + length (itemText (drop i l)) ≤ length t
       → q ≡ at + length (entryText (getD l i (pos 0))) → t′ ≡ put at (entryText (getD l i (pos 0))) t
-      → set (set t′ q 44) (q + 1) 32 ≡ put at (itemText (drop i l)) t
+      → set (set t′ q comma) (q + 1) space ≡ put at (itemText (drop i l)) t
   item-put at q t t′ k room hq ht =
       let e : List ℕ = entryText (getD l i (pos 0)) in
-      let n : length (itemText (drop i l)) ≡ length e + 2 = ap length (item-joined k) ∙ length-append e (44 ∷ 32 ∷ []) in
+      let n : length (itemText (drop i l)) ≡ length e + 2 = ap length (item-joined k) ∙ length-append e (comma ∷ space ∷ []) in
       let long : length t′ ≡ length t = ap length ht ∙ put-length at e t (omega arith) in
-      put-byte (q + 1) 32 (set t′ q 44) (simp length-set (omega arith))
-      ∙ ap (put (q + 1) (32 ∷ [])) (put-byte q 44 t′ (omega arith))
-      ∙ put-behind q (44 ∷ []) (32 ∷ []) t′ (omega arith)
-      ∙ rw (hq, ht) (put-behind at e (44 ∷ 32 ∷ []) t (omega arith))
+      put-byte (q + 1) space (set t′ q comma) (simp length-set (omega arith))
+      ∙ ap (put (q + 1) (space ∷ [])) (put-byte q comma t′ (omega arith))
+      ∙ put-behind q (comma ∷ []) (space ∷ []) t′ (omega arith)
+      ∙ rw (hq, ht) (put-behind at e (comma ∷ space ∷ []) t (omega arith))
       ∙ ap (λ (vs : List ℕ). put at vs t) (sym (item-joined k))
 
   -- a turn of the loop that puts the entries

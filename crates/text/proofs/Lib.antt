@@ -13,3 +13,4 @@ pub mod Writes
 pub mod RoundTrip
 pub mod Exactly
 pub mod Examples
+pub mod Spelling

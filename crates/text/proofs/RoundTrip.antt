@@ -14,12 +14,12 @@ use mathlib.Core.List.{List, [], _∷_, _++_, append-assoc, append-nil}
 use mathlib.Core.Bool.{Bool, true, false, cond}
 use mathlib.Core.Option.{none, some}
 use lib.IntN.{ℤ, pos, negsuc}
-use lib.Dec.{leb}
+use lib.Dec.{eqb, leb}
 use lib.ListN.{length}
 use lib.Seq.{drop-append-seam}
 use borrow.Author.Tests.{ne-eqb, lt-ltb, le-leb, leb-true}
 use Rattle.list.specs.Limits.{maxEntries}
-use Rattle.text.specs.Bytes.{zeroByte, minusByte, plusByte, isDigit, inNumber}
+use Rattle.text.specs.Bytes.{tab, lineFeed, carriageReturn, space, comma, hash, openByte, closeByte, zeroByte, nineByte, minusByte, plusByte, isDigit, inNumber}
 use Rattle.text.specs.Numbers.{numberBytes, isMinus, unsigned, decimal, magnitudeOf, greatest, numberOf}
 use Rattle.text.specs.Tokens.{Token, number, tokens}
 use Rattle.text.specs.Reading.{accepted, roomOf, inside, readOf, valuesOf, over, readInto}
@@ -33,7 +33,7 @@ use Rattle.text.proofs.Lexing.{number-run}
 -- ---- digits
 
 digit-is : (b : ℕ) → b < 10 → isDigit (zeroByte + b) ≡ true
-digit-is b h = rw (le-leb zeroByte (zeroByte + b) (omega arith), le-leb (zeroByte + b) 57 (omega arith))
+digit-is b h = rw (le-leb zeroByte (zeroByte + b) (omega arith), le-leb (zeroByte + b) nineByte (omega arith))
 
 -- digits that have a value have it with one digit more
 decimal-more : (a m d : ℕ) (bs : List ℕ) → decimal a bs ≡ some m → d < 10 → decimal a (bs ++ (zeroByte + d) ∷ []) ≡ some (m * 10 + d)
@@ -72,19 +72,29 @@ decimal-text n = decimal-within n n (omega arith)
 -- a digit belongs to a number and is no sign
 digit-in : (b : ℕ) → isDigit b ≡ true → inNumber b ≡ true
 digit-in b e =
-    let lo = leb-true zeroByte b (and-left (leb zeroByte b) (leb b 57) e) in
-    let hi = leb-true b 57 (and-right (leb zeroByte b) (leb b 57) e) in
-    rw (ne-eqb b 9 (λ k. omega arith), ne-eqb b 10 (λ k. omega arith), ne-eqb b 13 (λ k. omega arith), ne-eqb b 32 (λ k. omega arith), ne-eqb b 44 (λ k. omega arith), ne-eqb b 35 (λ k. omega arith), ne-eqb b 91 (λ k. omega arith), ne-eqb b 93 (λ k. omega arith))
+    let lo = leb-true zeroByte b (and-left (leb zeroByte b) (leb b nineByte) e) in
+    let hi = leb-true b nineByte (and-right (leb zeroByte b) (leb b nineByte) e) in
+    let other : (x : ℕ) → (b ≡ x → ⊥) → eqb b x ≡ false = λ x h. ne-eqb b x h in
+    rw (
+      other tab (λ k. omega arith),
+      other lineFeed (λ k. omega arith),
+      other carriageReturn (λ k. omega arith),
+      other space (λ k. omega arith),
+      other comma (λ k. omega arith),
+      other hash (λ k. omega arith),
+      other openByte (λ k. omega arith),
+      other closeByte (λ k. omega arith),
+    )
 
 -- the first of one or more digits is a digit
-first-digit : (a m b : ℕ) (bs : List ℕ) → decimal a (b ∷ bs) ≡ some m → isDigit b ≡ true
+pub first-digit : (a m b : ℕ) (bs : List ℕ) → decimal a (b ∷ bs) ≡ some m → isDigit b ≡ true
 first-digit a m b bs e = go (isDigit b) refl e
   where
     go : (y : Bool) → isDigit b ≡ y → cond y (decimal (a * 10 + (b - zeroByte)) bs) none ≡ some m → isDigit b ≡ true
     go true k f = k
     go false k f = clash (cc)
 
-rest-decimal : (a m b : ℕ) (bs : List ℕ) → decimal a (b ∷ bs) ≡ some m → decimal (a * 10 + (b - zeroByte)) bs ≡ some m
+pub rest-decimal : (a m b : ℕ) (bs : List ℕ) → decimal a (b ∷ bs) ≡ some m → decimal (a * 10 + (b - zeroByte)) bs ≡ some m
 rest-decimal a m b bs e = rw (first-digit a m b bs e) at e
 
 -- digits are all bytes of a number
@@ -94,16 +104,16 @@ digits-run a m (b ∷ bs) r e =
     rw (digit-in b (first-digit a m b bs e)) (ap (λ (x : List ℕ). b ∷ x) (digits-run (a * 10 + (b - zeroByte)) m bs r (rest-decimal a m b bs e)))
 
 -- digits without a sign read as themselves
-digits-plain : (m : ℕ) (bs : List ℕ) → 0 < length bs → decimal 0 bs ≡ some m → (isMinus bs ≡ false) × (magnitudeOf (unsigned bs) ≡ some m)
+pub digits-plain : (m : ℕ) (bs : List ℕ) → 0 < length bs → decimal 0 bs ≡ some m → (isMinus bs ≡ false) × (magnitudeOf (unsigned bs) ≡ some m)
 digits-plain m [] h e = absurd (omega arith)
 digits-plain m (b ∷ bs) h e =
     let d = first-digit 0 m b bs e in
-    let lo = leb-true zeroByte b (and-left (leb zeroByte b) (leb b 57) d) in
+    let lo = leb-true zeroByte b (and-left (leb zeroByte b) (leb b nineByte) d) in
     let minus = ne-eqb b minusByte (λ k. omega arith) in
     (minus, rw (minus, ne-eqb b plusByte (λ k. omega arith)) e)
 
 -- with a minus in front they read as the magnitude
-digits-signed : (m : ℕ) (bs : List ℕ) → 0 < length bs → decimal 0 bs ≡ some m → magnitudeOf bs ≡ some m
+pub digits-signed : (m : ℕ) (bs : List ℕ) → 0 < length bs → decimal 0 bs ≡ some m → magnitudeOf bs ≡ some m
 digits-signed m [] h e = absurd (omega arith)
 digits-signed m (b ∷ bs) h e = e
 
@@ -117,7 +127,7 @@ width-some n = go (decLt n 10)
 -- ---- no digits of the same value are fewer
 
 digit-small : (b : ℕ) → isDigit b ≡ true → b - zeroByte < 10
-digit-small b e = omega (arith, leb-true b 57 (and-right (leb zeroByte b) (leb b 57) e))
+digit-small b e = omega (arith, leb-true b nineByte (and-right (leb zeroByte b) (leb b nineByte) e))
 
 width-step : (a d : ℕ) → d < 10 → width (a * 10 + d) ≤ suc (width a)
 width-step a d h = go (decLt (a * 10 + d) 10)

@@ -82,6 +82,16 @@ inside-fits e m n (opening p ∷ ks) h = omega arith
 inside-fits e m n (closing p ∷ ks) h = behind-fits m n ks h
 inside-fits e m n (number p bs ∷ ks) h = number-fits m n p (numberOf p (p + length bs) bs) (inside e m (suc n) ks) (λ k. inside-fits e m (suc n) ks k)
 
+opened-fits : (e m : ℕ) (ks : List Token) → opened e m ks .entries ≤ m
+opened-fits e m [] = omega arith
+opened-fits e m (opening p ∷ ks) = inside-fits e m 0 ks (omega arith)
+opened-fits e m (closing p ∷ ks) = omega arith
+opened-fits e m (number p bs ∷ ks) = omega arith
+
+pub read-fits : (t : List ℕ) (n : ℕ) → readOf t n .entries ≤ n
+unfolding readOf
+read-fits t n = omega (arith, opened-fits (length t) (roomOf n) (tokens 0 false t))
+
 -- ---- the opening bracket
 
 module _ (t : List ℕ) (q : ℕ) (at : q ≡ 0 + blank false t) where
@@ -119,9 +129,6 @@ module _ (t : List ℕ) (q : ℕ) (at : q ≡ 0 + blank false t) where
         let w = inside-counts (length t) (roomOf (length l)) 0 (tokensAt t (q + 1)) (rw (read-inside (length l)) at z) in
         rw (eq-eqb (readOf t (length l) .code) 0 z, whole-opened head)
         (ap (λ (vs : List ℤ). over vs l) (take-all (r .entries) (valuesOf (tokensAt t (q + 1))) (omega arith)))
-
-    pub read-fits : (n : ℕ) → readOf t n .entries ≤ n
-    read-fits n = rw (read-inside n) (omega (arith, inside-fits (length t) (roomOf n) 0 (tokensAt t (q + 1)) (omega arith)))
 
 pub into-refused : (t : List ℕ) (l : List ℤ) → (readOf t (length l) .code ≡ 0 → ⊥) → readInto t l ≡ l
 unfolding readInto

@@ -1,6 +1,9 @@
 -- When each of the reader's codes is given, in the words of document 01's table, and where.
 --
---   HasForm bs k       bs is an optional `+` or `-` and then one or more decimal digits, of magnitude k
+--   AllDigits bs       the bytes bs are decimal digits
+--   Sign bs            the bytes bs are an optional `+` or `-`
+--   Spelled bs         bs is an optional `+` or `-` and then one or more decimal digits
+--   HasForm bs k       bs is so spelled, with digits of value k
 --   NoForm bs          bs is not of that form
 --   InRange bs         bs is of that form and a number from -2,147,483,648 to 2,147,483,647
 --   OutOfRange bs      bs is of that form and a number outside
@@ -14,9 +17,29 @@ use Prim.Native.Nat.{ℕ, _≤_, _<_}
 use mathlib.Core.List.{List, [], _∷_, _++_}
 use mathlib.Core.Option.{none, some}
 use lib.ListN.{length}
+use mathlib.Core.Bool.{true}
+use Rattle.text.specs.Bytes.{plusByte, minusByte, isDigit}
 use Rattle.text.specs.Numbers.{isMinus, unsigned, magnitudeOf, greatest}
 use Rattle.text.specs.Tokens.{Token, opening, closing, number, startOf}
 
+abbrev pub AllDigits : List ℕ → Type 0
+AllDigits [] = Unit {0}
+AllDigits (b ∷ bs) = (isDigit b ≡ true) × AllDigits bs
+
+pub data Sign : List ℕ → Type 0 where
+  no-sign : Sign []
+  plus : Sign (plusByte ∷ [])
+  minus : Sign (minusByte ∷ [])
+
+pub record Spelled (bs : List ℕ) : Type 0 where
+  pub sign : List ℕ
+  pub digits : List ℕ
+  pub optional : Sign sign
+  pub one-or-more : 0 < length digits
+  pub decimal-digits : AllDigits digits
+  pub together : bs ≡ sign ++ digits
+
+-- that this is the same as `Spelled` is proved: `form-exactly`
 abbrev pub HasForm : List ℕ → ℕ → Type 0
 HasForm bs k = magnitudeOf (unsigned bs) ≡ some k
 

@@ -7,6 +7,7 @@
 --   magnitudeOf bs       the decimal value of bs, one or more digits
 --   greatest minus       the greatest magnitude of a number with that sign: -2,147,483,648 to 2,147,483,647
 --   signed minus m       the number of magnitude m
+--   ofMagnitude p e s o  the reading of a number from place p to place e with sign s whose digits come to o
 --   numberOf p e bs      the reading of the number bs that starts at place p and ends before place e
 --   numberAt t at        the reading of the text t at place at
 --   codeOf, placeOf      document 01's numbers for a reading: 0 with its place after it, or the refusal with its place
@@ -48,7 +49,6 @@ greatest minus = cond minus 2147483648 2147483647
 abbrev pub signed : Bool → ℕ → ℤ
 signed minus m = cond minus (negℤ (pos m)) (pos m)
 
--- p and e are the places where the number starts and ends
 abbrev pub ofMagnitude : ℕ → ℕ → Bool → Option ℕ → Number
 ofMagnitude p e minus none = Refused notOfTheForm p
 ofMagnitude p e minus (some m) = cond (leb m (greatest minus)) (Value (signed minus m) e) (Refused outOfRange p)

@@ -4,11 +4,14 @@
 --   accepted n         the answer that accepts n entries: code 0, place 0
 --   roomOf n           how many numbers a lent list of n entries takes
 --   behind n ks        the things ks behind the closing bracket, where n entries have been read: there must be none
+--   counted p b x r    the number x read at place p: its own refusal, 13 where b says that it has no room, else the answer r
 --   inside e m n ks    the things ks inside the brackets, in a text of length e, where n of at most m entries have been read
 --   opened e m ks      the things ks of a whole text: the first must be the opening bracket
 --   readOf t n         the answer to the text t and a lent list of n entries
+--   valueThen x vs     the value of the number x in front of the values vs, or none where x is refused
 --   valuesOf ks        the values of the numbers that ks begins with
 --   entriesOf ks       the entries of a text that is the things ks
+--   over vs l          the values vs in front of what stays of the list l
 --   readInto t l       the lent list afterwards: the entries read in front of what stays, or all as it was
 use Prim.Native.Nat.{ℕ, suc, _+_, min}
 use mathlib.Core.List.{List, [], _∷_, _++_}
@@ -37,7 +40,6 @@ abbrev pub behind : ℕ → List Token → ReadAnswer
 behind n [] = accepted n
 behind n (k ∷ ks) = refused notOfTheForm (startOf k)
 
--- a number at place p: its own refusal first, then 13 where there is no room for it, else what follows
 abbrev pub counted : ℕ → Bool → Number → ReadAnswer → ReadAnswer
 counted p room (Value v e) next = cond room next (refused tooMany p)
 counted p room (Refused c q) next = refused (codeOf (Refused c q)) (placeOf (Refused c q))
@@ -74,7 +76,6 @@ entriesOf (opening p ∷ ks) = valuesOf ks
 entriesOf (closing p ∷ ks) = []
 entriesOf (number p bs ∷ ks) = []
 
--- vs in front of what stays of l
 abbrev pub over : List ℤ → List ℤ → List ℤ
 over vs l = vs ++ drop (length vs) l
 

@@ -3,6 +3,7 @@
 --   beyond         a magnitude past the range of either sign: a larger one is kept as this one
 --   clipped o      the digits' value as the number reader keeps it
 --   blank c s      how many bytes of separators and comments s begins with; c says whether s starts in a comment
+--   itemOfNumber   the item that a number read at place p is
 --   itemOf e ks    the first of the things ks inside the brackets, in a text of length e
 --   put at vs t    the bytes vs at place at of t, and what stood in front of them and behind them
 use Prim.Native.Nat.{ℕ, suc, _+_, min}

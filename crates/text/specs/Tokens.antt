@@ -2,6 +2,7 @@
 --
 --   Token            an opening bracket, a closing bracket or a number with its bytes, each with the place of its first byte
 --   startOf k        that place
+--   push p b r       the byte b of a number at place p, in front of the things r
 --   token p b r      the byte b at place p, in front of the things r: a bracket, or one more byte of a number
 --   tokens p c s     the things in s, which starts at place p; c says whether s starts in a comment
 --   tokensAt t i     the things in the text t from place i on

@@ -1,6 +1,7 @@
 -- Writing a list as a text (document 01, "Text" and codes 1, 15).
 --
 --   width n            how many digits n has in shortest decimal
+--   widthWithin f n    the same, where f bounds how many are looked for
 --   lowDigits k n      the k lowest decimal digits of n, as bytes
 --   decimalText n      n in shortest decimal
 --   isNegative x       the entry x is below 0
@@ -26,11 +27,10 @@ use lib.Dec.{eqb, ltb}
 use borrow.Author.Tests.{lt-ltb, le-ltb, ltb-false}
 use Rattle.list.specs.Limits.{maxEntries}
 use Rattle.text.specs.Codes.{tooLong, noRoom}
-use Rattle.text.specs.Bytes.{openByte, closeByte, minusByte, zeroByte}
+use Rattle.text.specs.Bytes.{space, comma, openByte, closeByte, minusByte, zeroByte}
 use Rattle.text.specs.Numbers.{greatest}
 use Rattle.text.specs.declared.WriteAnswer.{WriteAnswer}
 
--- f bounds how many digits are looked for
 abbrev pub widthWithin : ℕ → ℕ → ℕ
 widthWithin zero n = 1
 widthWithin (suc f) n = let r : ℕ = suc (widthWithin f (n / 10)) in cond (ltb n 10) 1 r
@@ -96,7 +96,7 @@ entryText x = cond (isNegative x) (minusByte ∷ decimalText (natAbs x)) (decima
 
 abbrev pub joint : List ℤ → List ℕ
 joint [] = []
-joint (x ∷ xs) = 44 ∷ 32 ∷ []
+joint (x ∷ xs) = comma ∷ space ∷ []
 
 abbrev pub itemText : List ℤ → List ℕ
 itemText [] = []

@@ -26,7 +26,7 @@ pub enum Number {
 }
 
 // What one or more digits come to.
-pub enum Digits {
+enum Digits {
     Magnitude(u64),
     Broken,
 }

@@ -21,7 +21,7 @@ ghost use Rattle.text.specs.Steps.{blank, itemOf};
 const TOO_MANY: u32 = 13;
 
 // What stands at a place inside the brackets.
-pub enum Item {
+enum Item {
     Entry {
         place: usize,
         value: i32,

@@ -1,13 +1,15 @@
 -- `text::read` meets its contract: the pass that looks gives the answer, and the pass that fills writes only where that accepts.
-use mathlib.Core.Path.{_≡_, sym, _∙_}
-use Prim.Native.Nat.{_≤_}
+use mathlib.Core.Path.{_≡_, sym, ap, _∙_}
+use Prim.Native.Nat.{_+_, _≤_}
 use mathlib.Core.Bool.{true, _&&_}
 use native.Mathlib.Omega.{arith}
 use lib.Dec.{eqb, ltb}
-use lib.ListN.{length, getD}
+use lib.ListN.{length, take, getD}
 use borrow.Author.Tests.{not-true, not-false, ltb-true}
 use Rattle.text.specs.Bytes.{openByte}
-use Rattle.text.specs.Reading.{readOf}
+use Rattle.text.specs.Tokens.{tokensAt}
+use Rattle.text.specs.Reading.{readOf, valuesOf, over}
+use Rattle.text.specs.declared.ReadAnswer.{ReadAnswer}
 use Rattle.text.proofs.Bools.{and-left}
 use Rattle.text.proofs.Whole.{whole-unopened, read-inside, read-entries, read-fits, into-refused, refused-not}
 use borrow.Author.Needs.{needs}
@@ -62,10 +64,8 @@ look-requires c κs = search needs
 fill-requires : tie.Need-fill-requires
 fill-requires c κs =
     let u = c .before .before in
-    let s = u .before .before .before .before .skip in
     let a = u .before .before .before .before .before .before .args in
-    let k : u .look .result .entries ≤ length (a .list .now) =
-    rw (answer u) (read-fits (a .text .now) (s .result) (s .ensures) (head (u .before .before)) (length (a .list .now))) in
+    let k : u .look .result .entries ≤ length (a .list .now) = rw (answer u) (read-fits (a .text .now) (length (a .list .now))) in
     omega arith
 
 same-length : tie.Need-same-length
@@ -78,7 +78,8 @@ returns-2 c =
     let a = u .before .before .before .before .before .before .args in (
       answer u,
       c .before .fill .ensures
-          ∙ rw (answer u) (read-entries (a .text .now) (s .result) (s .ensures) (head (u .before .before)) (a .list .now) (rw (answer u) at (c .before .before .before .if2 .taken))),
+          ∙ ap (λ (r : ReadAnswer). over (take (r .entries) (valuesOf (tokensAt (a .text .now) (s .result + 1)))) (a .list .now)) (answer u)
+          ∙ read-entries (a .text .now) (s .result) (s .ensures) (head (u .before .before)) (a .list .now) (rw (answer u) at (c .before .before .before .if2 .taken)),
     )
 
 returns-3 : tie.Need-returns-3

@@ -1,12 +1,14 @@
 -- `text::number::greatest_magnitude` meets its contract: each arm is the case of the definition that its test picks.
+use mathlib.Core.Path.{ap, sym}
+use Rattle.text.specs.Numbers.{greatest}
 use Rattle.text.proofs.number.greatest_magnitude.Statement.{statement}
 use Rattle.text.proofs.number.greatest_magnitude.Tie as tie
 
 returns : tie.Need-returns
-returns c = rw (c .if1 .taken)
+returns c = ap greatest (sym (c .if1 .taken))
 
 returns-2 : tie.Need-returns-2
-returns-2 c = rw (c .if1 .left)
+returns-2 c = ap greatest (sym (c .if1 .left))
 
 pub greatest-magnitude-spec : {M : Type 1} → statement M
 greatest-magnitude-spec = tie.close (tie.spec returns returns-2)

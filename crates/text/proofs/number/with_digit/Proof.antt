@@ -2,7 +2,7 @@
 use native.Mathlib.Omega.{arith}
 use borrow.Author.Tests.{leb-true}
 use lib.Dec.{leb}
-use Rattle.text.specs.Bytes.{zeroByte}
+use Rattle.text.specs.Bytes.{zeroByte, nineByte}
 use Rattle.text.proofs.Bools.{and-left}
 use borrow.Author.Needs.{needs}
 use Rattle.text.proofs.number.with_digit.Statement.{statement}
@@ -12,7 +12,7 @@ mul-next : tie.Need-mul-next
 mul-next c = search needs
 
 sub-next : tie.Need-sub-next
-sub-next c = omega (arith, leb-true zeroByte (c .args .b) (and-left (leb zeroByte (c .args .b)) (leb (c .args .b) 57) (c .pre .1)))
+sub-next c = omega (arith, leb-true zeroByte (c .args .b) (and-left (leb zeroByte (c .args .b)) (leb (c .args .b) nineByte) (c .pre .1)))
 
 cast-next : tie.Need-cast-next
 cast-next c = search needs

@@ -4,6 +4,7 @@ use mathlib.Core.List.{[], _∷_}
 use native.Mathlib.Omega.{arith}
 use lib.IntN.{pos}
 use lib.ListN.{length, getD, length-append}
+use Rattle.text.specs.Bytes.{space, comma}
 use Rattle.text.specs.Writing.{entryText}
 use Rattle.text.proofs.Entries.{item-joined, item-last}
 use borrow.Author.Needs.{needs}
@@ -23,7 +24,7 @@ returns : tie.Need-returns
 returns c =
     let a = c .before .before .args in
     let e = ap length (item-joined (a .list .now) (a .i) (c .before .before .pre) (c .if1 .taken)) in
-    let f = length-append (entryText (getD (a .list .now) (a .i) (pos 0))) (44 ∷ 32 ∷ []) in
+    let f = length-append (entryText (getD (a .list .now) (a .i) (pos 0))) (comma ∷ space ∷ []) in
     omega arith
 
 returns-2 : tie.Need-returns-2

@@ -5,6 +5,7 @@ use Prim.Native.Nat.{suc, _+_}
 use native.Mathlib.Omega.{arith}
 use lib.IntN.{pos}
 use lib.ListN.{length, drop, getD, length-append, length-set}
+use Rattle.text.specs.Bytes.{space, comma}
 use Rattle.text.specs.Writing.{entryText, joint, itemText}
 use Rattle.text.proofs.Entries.{item-at-place, item-joined, item-last, item-put}
 use borrow.Author.Needs.{needs}
@@ -19,7 +20,7 @@ room : (c : tie.Then1)
 room c =
     let a = c .before .before .before .before .before .before .args in
     let e = ap length (item-joined (a .list .now) (a .i) (c .before .before .before .before .before .before .pre .0) (c .if1 .taken)) in
-    let f = length-append (entryText (getD (a .list .now) (a .i) (pos 0))) (44 ∷ 32 ∷ []) in
+    let f = length-append (entryText (getD (a .list .now) (a .i) (pos 0))) (comma ∷ space ∷ []) in
     omega arith
 
 put-entry-requires : tie.Need-put-entry-requires
