@@ -1,12 +1,10 @@
 -- The answers of the class call and of the cut, outcome by outcome: each refusal leaves every buffer as it was, and an accepted
 -- list leaves what is written before the rest.
 use Prim.Native.Nat.{ℕ, _*_, _≤_, _<_}
-use mathlib.Core.Path.{_≡_, refl, sym, _∙_, ap}
-use mathlib.Core.Bool.{Bool, true, false, cond}
+use mathlib.Core.Path.{_≡_, sym, _∙_, ap}
 use mathlib.Core.List.{List, _++_}
 use native.Mathlib.Omega.{arith}
-use borrow.Author.Tests.{eq-eqb, ne-eqb, lt-ltb, le-ltb}
-use lib.Dec.{eqb}
+use borrow.Author.Tests.{ne-eqb, lt-ltb, le-ltb}
 use lib.IntN.{ℤ}
 use lib.ListN.{length, drop, replicate, length-replicate}
 use Rattle.list.specs.Faces.{corners}

@@ -1,29 +1,29 @@
 -- The final marks are the classes: a vertex has as many fans as roots, and the words of the edge table tell the kind of an edge.
 use Prim.Native.Nat.{ℕ, zero, suc, _+_, _*_, _≤_, _<_}
 use mathlib.Core.Path.{_≡_, refl, sym, _∙_, ap}
-use mathlib.Core.Bool.{Bool, true, false, cond, _&&_, _||_, true≢false}
+use mathlib.Core.Bool.{Bool, true, false, cond, _&&_, true≢false}
 use mathlib.Core.List.{List, [], _∷_, map}
 use native.Mathlib.Nat.{add-zero, add-suc, suc-add}
 use native.Mathlib.Omega.{arith}
-use borrow.Author.Tests.{eqb-true, eqb-false, eq-eqb, ne-eqb, leb-true, leb-false, le-leb, lt-leb, lt-ltb}
+use borrow.Author.Tests.{eqb-true, eqb-false, eq-eqb, ne-eqb, leb-true, leb-false, le-leb, lt-ltb}
 use lib.Dec.{leb, ltb, eqb}
 use lib.IntN.{ℤ}
 use lib.ListN.{length, getD, take, drop, length-map, drop-of-length-le}
 use lib.Seq.{drop-cons, ext-getD}
 use Rattle.edges.specs.Choose.{All, choose, count}
-use Rattle.edges.specs.Uses.{Use, uses, usesOn, isBoundary, isSingular, Mate, alone, other, many}
+use Rattle.edges.specs.Uses.{Use, uses, isBoundary, isSingular}
 use Rattle.edges.specs.Table.{mateWord, tableOf}
 use Rattle.edges.proofs.Lists.{choose-none, choose-same}
 use Rattle.edges.proofs.Uses.{useAt, next-below, to-next}
-use Rattle.edges.proofs.Mates.{mate, word, facesAt, mate-alone, mate-many, word-alone, word-many}
+use Rattle.edges.proofs.Mates.{word, facesAt, mate-alone, mate-many, word-alone, word-many}
 use Rattle.edges.proofs.Table.{table-next, table-vertex, table-mate}
 use Rattle.cut.specs.Groups.{noUse, countFrom, upTo, fanLabels}
 use Rattle.cut.specs.Renumber.{distinct}
 use Rattle.cut.specs.Classes.{touches, endsEdgeOf, endsEdge, hasFace, labelsAt, fansAt, classOf, classesOf}
 use Rattle.cut.specs.Forest.{at, Forest, Grouped}
-use Rattle.cut.specs.Marks.{isRootOn, rootsOn, fanMark, touchesAt, marksEnd, boundaryWord, singularWord, raised, finished, finalMark}
+use Rattle.cut.specs.Marks.{isRootOn, rootsOn, fanMark, touchesAt, marksEnd, boundaryWord, singularWord, finished, finalMark}
 use Rattle.cut.proofs.Counting.{word-kept, map-at, length-countFrom, at-countFrom}
-use Rattle.cut.proofs.Roots.{Earliest, forest-earliest, parent-earlier, parent-own, rootsIn, pick, distinct-roots}
+use Rattle.cut.proofs.Roots.{forest-earliest, parent-earlier, parent-own, rootsIn, pick, distinct-roots}
 use Rattle.cut.proofs.TableLinks.{fan-vertex}
 
 all-countFrom : (P : ℕ → Type 0) (n s : ℕ) → ((i : ℕ) → s ≤ i → i < s + n → P i) → All P (countFrom s n)

@@ -1,11 +1,11 @@
 -- A buffer filled from the front: what is written and what is left to write always make up the whole, and what follows is as it was.
-use Prim.Native.Nat.{ℕ, zero, suc, _+_, _-_, _≤_, _<_}
+use Prim.Native.Nat.{ℕ, suc, _+_, _≤_, _<_}
 use mathlib.Core.Path.{_≡_, refl, sym, _∙_, ap}
-use mathlib.Core.List.{List, [], _∷_, _++_, append-assoc, append-nil}
+use mathlib.Core.List.{List, [], _∷_, _++_, append-nil}
 use native.Mathlib.Numerals.{add-one}
 use native.Mathlib.Omega.{arith}
 use borrow.Author.Fill.{fill-none, fill-more}
-use lib.ListN.{length, getD, set, drop, replicate, length-append, length-drop, length-set}
+use lib.ListN.{length, getD, set, drop, replicate, length-append, length-set}
 use lib.Seq.{drop-cons, drop-length, set-at, append-snoc}
 
 module _ {A : Type 0} where
@@ -18,9 +18,6 @@ module _ {A : Type 0} where
 
   pub filled-start : (old whole : List A) → Filled old whole whole 0 old
   filled-start old whole = record { front = []; size = refl; is = refl; makes = refl }
-
-  pub filled-length : (old whole rest : List A) (i : ℕ) (xs : List A) → i ≤ length old → Filled old whole rest i xs → length xs ≡ length old
-  filled-length old whole rest i xs h F = ap length (F .is) ∙ length-append (F .front) (drop i old) ∙ omega (arith, F .size, length-drop i old)
 
   pub filled-more : (old whole rest : List A) (i : ℕ) (xs : List A) (d v : A) → i < length old → Filled old whole (v ∷ rest) i xs → Filled old whole rest (i + 1) (set xs i v)
   filled-more old whole rest i xs d v h F =

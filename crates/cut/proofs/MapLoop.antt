@@ -1,18 +1,18 @@
 -- The loop that writes the map: k roots are met among the e corners met, and their entries are written.
-use Prim.Native.Nat.{ℕ, zero, suc, _+_, _-_, _*_, _≤_, _<_}
-use mathlib.Core.Path.{_≡_, refl, sym, _∙_, ap}
-use mathlib.Core.Bool.{Bool, true, false, cond, _&&_}
-use mathlib.Core.List.{List, [], _∷_, _++_, map}
+use Prim.Native.Nat.{ℕ, _+_, _-_, _*_, _≤_, _<_}
+use mathlib.Core.Path.{_≡_, refl, _∙_, ap}
+use mathlib.Core.Bool.{true, false, _&&_}
+use mathlib.Core.List.{List, [], map}
 use native.Mathlib.Omega.{arith}
 use lib.IntN.{ℤ, pos}
 use lib.Dec.{eqb}
 use lib.ListN.{length, getD, set, drop, length-set, length-drop, drop-of-length-le}
 use Rattle.list.specs.Faces.{isEnd, corners}
-use Rattle.cut.specs.Renumber.{placeIn, distinct, mapOf}
+use Rattle.cut.specs.Renumber.{placeIn, mapOf}
 use Rattle.cut.specs.Cut.{over}
 use Rattle.cut.specs.Forest.{at, Forest}
 use Rattle.cut.proofs.Roots.{rootsIn, anyCorner, forest-earliest, parent-earlier, parent-own, roots-split, place-of-root, distinct-all}
-use Rattle.cut.proofs.Filled.{Filled, filled-start, filled-more, filled-end, filled-length}
+use Rattle.cut.proofs.Filled.{Filled, filled-start, filled-more, filled-end}
 use Rattle.cut.proofs.Walk.{Walk, walk-start, walk-end, walk-corner, walk-inside, walk-entry}
 
 -- the entry of a new vertex

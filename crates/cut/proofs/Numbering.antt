@@ -1,19 +1,19 @@
 -- The loop that numbers the corners: before e every corner has the place of its label among the roots, and k roots are met.
-use Prim.Native.Nat.{ℕ, zero, suc, _+_, _-_, _*_, _≤_, _<_}
+use Prim.Native.Nat.{ℕ, suc, _+_, _-_, _*_, _≤_, _<_}
 use mathlib.Core.Path.{_≡_, refl, sym, _∙_, ap}
-use mathlib.Core.Bool.{Bool, true, false, cond, _&&_}
-use mathlib.Core.List.{List, [], _∷_, _++_, map}
+use mathlib.Core.Bool.{true, false, _&&_}
+use mathlib.Core.List.{List, _++_, map}
 use native.Mathlib.Omega.{arith}
 use borrow.Author.Count.{below-more}
 use lib.IntN.{ℤ}
 use lib.Dec.{eqb}
 use lib.ListN.{length, set, take, drop, length-set, length-map, take-append-drop}
-use lib.Seq.{getD-set-same, getD-set-other, getD-take, getD-drop, drop-set-lt, ext-getD, length-take-le, take-at}
+use lib.Seq.{getD-set-same, getD-set-other, getD-take, drop-set-lt, ext-getD, length-take-le, take-at}
 use Rattle.cut.specs.Renumber.{placeIn, distinct, newNumbers, newVertices, refilled, newListOf, mapOf}
 use Rattle.cut.specs.Cut.{over}
 use Rattle.cut.specs.Forest.{at, Forest, Renumbered}
 use Rattle.cut.proofs.Counting.{map-at, word-after}
-use Rattle.cut.proofs.Roots.{rootsIn, anyCorner, Earliest, forest-earliest, parent-earlier, parent-own, roots-split, root-place, distinct-all}
+use Rattle.cut.proofs.Roots.{rootsIn, anyCorner, forest-earliest, parent-earlier, parent-own, roots-split, root-place, distinct-all}
 
 -- the roots of c corners, and those from e on
 abbrev roots : List ℕ → ℕ → List ℕ

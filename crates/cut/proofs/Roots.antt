@@ -27,9 +27,6 @@ module _ (w : List ℕ) (p : ℕ) (labels : List ℕ) (F : Forest w p labels) wh
   early zero i h l = absurd (omega arith)
   early (suc n) i h l = go (ltb (at w (p + i)) i) refl (early n)
     where
-      q : ℕ
-      q = at w (p + i)
-
       go : (t : Bool) → ltb (at w (p + i)) i ≡ t → ((j : ℕ) → j < n → j < length labels → (at labels j ≤ j) × (at labels (at labels j) ≡ at labels j)) → (at labels i ≤ i) × (at labels (at labels i) ≡ at labels i)
       go true e ih =
           let lt : at w (p + i) < i = ltb-true (at w (p + i)) i e in

@@ -1,24 +1,24 @@
 -- The edge table of a list: its links are those of the list's uses, and a link joins corners on one vertex, so that a label lies
 -- on the vertex of its corners.
-use Prim.Native.Nat.{ℕ, zero, suc, _+_, _*_, _≤_, _<_, min, max}
+use Prim.Native.Nat.{ℕ, zero, suc, _+_, _≤_, _<_, min, max}
 use mathlib.Core.Path.{_≡_, refl, sym, _∙_, ap}
 use mathlib.Core.Bool.{Bool, true, false, cond, _&&_}
-use mathlib.Core.List.{List, [], _∷_, _++_, map}
+use mathlib.Core.List.{List, [], _∷_}
 use native.Mathlib.Omega.{arith}
-use borrow.Author.Tests.{lt-ltb, le-ltb, eqb-true, eqb-false, leb-true, leb-false, ltb-true}
+use borrow.Author.Tests.{lt-ltb, le-ltb, eqb-true, eqb-false, leb-true, leb-false}
 use lib.Dec.{leb, ltb, eqb}
 use lib.IntN.{ℤ}
 use lib.ListN.{length, drop, length-map, drop-of-length-le}
 use lib.Seq.{drop-cons}
-use Rattle.edges.specs.Uses.{Use, uses, lo, hi, onEdge, Mate, alone, other, many, mateOf}
+use Rattle.edges.specs.Uses.{uses, lo, hi, Mate, alone, other, many}
 use Rattle.edges.specs.Table.{mateWord, tableOf}
 use Rattle.edges.specs.Choose.{All}
 use Rattle.edges.proofs.Lists.{all-append}
 use Rattle.edges.proofs.Uses.{useAt, corner-at, next-below, to-next}
 use Rattle.edges.proofs.Faces.{on-edge}
-use Rattle.edges.proofs.Mates.{mate, word, Regular, mate-regular, word-other}
+use Rattle.edges.proofs.Mates.{mate, Regular, mate-regular}
 use Rattle.edges.proofs.Table.{table-long, table-next, table-vertex, table-mate}
-use Rattle.cut.specs.Groups.{Link, noUse, linksOf, linksAt, linksFrom, links, everyEdge, upTo, replaced, merge, mergeAll, labelsOf, groupLabels, fanLabels}
+use Rattle.cut.specs.Groups.{Link, noUse, linksOf, linksAt, linksFrom, links, everyEdge, upTo, replaced, merge, mergeAll, labelsOf, fanLabels}
 use Rattle.cut.specs.Forest.{at, link, TableWords, linksAcross, linksAtCorner, linksFromCorner, tableLinks}
 use Rattle.cut.proofs.Counting.{map-at, length-countFrom, at-countFrom}
 
@@ -53,10 +53,6 @@ module _ (l : List ℤ) where
   pub table-links : tableLinks (tableOf l) (length (uses l)) ≡ links everyEdge (uses l)
   unfolding tableLinks links
   table-links = from-uses c 0 (omega arith)
-
-  pub table-groups : labelsOf (length (uses l)) (tableLinks (tableOf l) (length (uses l))) ≡ groupLabels l
-  unfolding groupLabels
-  table-groups = rw table-links
 
   pub table-fans : labelsOf (length (uses l)) (tableLinks (tableOf l) (length (uses l))) ≡ fanLabels l
   unfolding fanLabels

@@ -1,8 +1,8 @@
 -- The walk over a list's entries that counts the corners met, and the new list and the map that are written on the way.
-use Prim.Native.Nat.{ℕ, zero, suc, _+_, _-_, _*_, _≤_, _<_}
-use mathlib.Core.Path.{_≡_, refl, sym, _∙_, ap}
-use mathlib.Core.Bool.{Bool, true, false, cond, _&&_}
-use mathlib.Core.List.{List, [], _∷_, _++_, map, append-nil}
+use Prim.Native.Nat.{ℕ, suc, _+_, _≤_, _<_}
+use mathlib.Core.Path.{_≡_, refl, _∙_, ap}
+use mathlib.Core.Bool.{true, false}
+use mathlib.Core.List.{List, [], _∷_, append-nil}
 use native.Mathlib.Numerals.{add-one}
 use native.Mathlib.Omega.{arith}
 use lib.IntN.{ℤ, pos}
@@ -10,7 +10,7 @@ use lib.ListN.{length, getD, set, drop, length-drop, length-set, drop-of-length-
 use lib.Seq.{drop-cons}
 use Rattle.list.specs.Faces.{isEnd, corners}
 use Rattle.cut.specs.Renumber.{refilled}
-use Rattle.cut.proofs.Filled.{Filled, filled-start, filled-more, filled-end, filled-length}
+use Rattle.cut.proofs.Filled.{Filled, filled-start, filled-more, filled-end}
 
 refilled-end : (x : ℤ) (xs : List ℤ) (ks : List ℕ) → isEnd x ≡ true → refilled (x ∷ xs) ks ≡ x ∷ refilled xs ks
 refilled-end x xs [] e = refl

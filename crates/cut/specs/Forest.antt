@@ -1,27 +1,30 @@
--- How the work buffer holds groups: one word of parent for each corner, in the block that starts at p.
+-- The work buffer of c corners: four blocks of c words, the three of the edge table and one of parents, by which it holds groups;
+-- and what the passes over it leave. Only the contracts of private functions speak of it.
 --
 --   at w i             the word at i
 --   link x y           the link between the corners x and y
---   Forest w p labels  the parents in w are those of groups with these labels: a parent is in its child's group and not after
+--   Forest w p labels  the parents from p on are those of groups with these labels: a parent is in its child's group and not after
 --                      it, and a corner that is its own parent is its group's label
---   Climbs w p x r     r is reached from x by going from child to parent, and is its own parent where no parent is after its child
---   Regrouped w w' p g the block at p of w has become that of w', and groups of labels have become those of g of the labels
---   TableWords w c     the work of c corners: four blocks, and each next corner is a corner
---   VertexWords w c n  the same, with few corners and all vertices below n
---   Grouped l c w      w holds the edge table of the list l, of c corners, and behind it the parents of its fans
---   Renumbered         the new list, the map before and after it is written, and the new vertices, for these labels
---   linksAtCorner      the links across the edge that starts at a corner, from the words of the edge table
+--   Climbs w p x r     r is reached from x by going from child to parent, and has no earlier parent
+--   Regrouped w w′ p g from p on w has become w′, and where it held groups with some labels, it holds those with g of them
+--   TableWords w c     four blocks, and each next corner is a corner
+--   VertexWords w c n  the same, with few corners, and all vertices below n
+--   Grouped l c w      w holds the edge table of the list l and the parents of its fans
+--   Renumbered         the new list, the map after and before, and the number of new vertices, for these labels
+--   CutMade            what is made of a valid list: the three counts, the new list, the map and the cleared work
+--   linksAcross        the links across an edge whose two uses start at two corners, from the words of the edge table
+--   linksAtCorner      the links at a corner, the earlier of the two
 --   tableLinks w c     the links of the edge table in w
 use Prim.Native.Nat.{ℕ, zero, suc, _+_, _*_, _≤_, _<_, _^_}
 use mathlib.Core.Path.{_≡_}
 use mathlib.Core.List.{List, [], _∷_, _++_}
-use mathlib.Core.Bool.{Bool, true, false, cond, _&&_}
+use mathlib.Core.Bool.{cond, _&&_}
 use lib.Dec.{ltb, eqb}
 use lib.IntN.{ℤ}
 use lib.ListN.{length, getD, take, replicate}
-use Rattle.cut.specs.Groups.{Link, fanLabels, groupLabels}
 use Rattle.edges.specs.Uses.{uses, singularEdges}
 use Rattle.edges.specs.Table.{tableOf}
+use Rattle.cut.specs.Groups.{Link, fanLabels, groupLabels}
 use Rattle.cut.specs.Renumber.{newListOf, newVertices, mapOf}
 use Rattle.cut.specs.Classes.{singularVertices}
 use Rattle.cut.specs.Cut.{over}
@@ -67,7 +70,14 @@ pub record Renumbered (l : List ℤ) (labels : List ℕ) (vertices : ℕ) (newLi
   pub back : map′ ≡ over (mapOf l labels) map
   pub count : vertices ≡ newVertices labels
 
--- the corners e and m start the two uses of an edge
+pub record CutMade (l : List ℤ) (n c : ℕ) (vertices edges points : ℕ) (newList map map′ : List ℤ) (work : List ℕ) : Type 0 where
+  pub list : newList ≡ newListOf l (groupLabels l)
+  pub back : map′ ≡ over (mapOf l (groupLabels l)) map
+  pub cleared : work ≡ replicate (4 * c) 0
+  pub vertices-are : vertices ≡ newVertices (groupLabels l)
+  pub edges-are : edges ≡ singularEdges l
+  pub points-are : points ≡ singularVertices l n
+
 abbrev pub linksAcross : List ℕ → ℕ → ℕ → ℕ → List Link
 linksAcross w c e m =
     cond (eqb (at w (c + e)) (at w (c + m)))
@@ -77,19 +87,10 @@ linksAcross w c e m =
 abbrev pub linksAtCorner : List ℕ → ℕ → ℕ → List Link
 linksAtCorner w c e = cond (ltb e (at w (2 * c + e)) && ltb (at w (2 * c + e)) c) (linksAcross w c e (at w (2 * c + e))) []
 
--- the links at n corners from e on
+-- those at n corners from e on
 abbrev pub linksFromCorner : List ℕ → ℕ → ℕ → ℕ → List Link
 linksFromCorner w c e zero = []
 linksFromCorner w c e (suc n) = linksAtCorner w c e ++ linksFromCorner w c (suc e) n
 
 unfoldable pub tableLinks : List ℕ → ℕ → List Link
 tableLinks w c = linksFromCorner w c 0 c
-
--- what is made of a valid list: the three counts, the new list, the map and the cleared work
-pub record CutMade (l : List ℤ) (n c : ℕ) (vertices edges points : ℕ) (newList map map′ : List ℤ) (work : List ℕ) : Type 0 where
-  pub list : newList ≡ newListOf l (groupLabels l)
-  pub back : map′ ≡ over (mapOf l (groupLabels l)) map
-  pub cleared : work ≡ replicate (4 * c) 0
-  pub vertices-are : vertices ≡ newVertices (groupLabels l)
-  pub edges-are : edges ≡ singularEdges l
-  pub points-are : points ≡ singularVertices l n

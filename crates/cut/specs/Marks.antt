@@ -10,7 +10,7 @@
 --   finished k s b       the mark k once it is known whether the vertex ends a singular edge, and whether a boundary edge
 use Prim.Native.Nat.{ℕ, zero, suc, _+_, _*_}
 use mathlib.Core.List.{List}
-use mathlib.Core.Bool.{Bool, true, false, cond, _&&_, _||_}
+use mathlib.Core.Bool.{Bool, false, cond, _&&_, _||_}
 use lib.Dec.{leb, eqb}
 use Rattle.edges.specs.Choose.{count}
 use Rattle.cut.specs.Groups.{countFrom}

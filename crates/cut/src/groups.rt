@@ -1,7 +1,6 @@
 // Groups of corners in the work buffer: for each corner a parent, in the block that starts at p, that is not after it.
 ghost use mathlib.Core.Path.{_≡_};
-ghost use mathlib.Core.List.{List};
-ghost use Prim.Native.Nat.{ℕ, _+_, _-_, _*_, _<_, _≤_, _^_};
+ghost use Prim.Native.Nat.{_+_, _-_, _*_, _<_, _≤_, _^_};
 ghost use lib.ListN.{length, take};
 ghost use Rattle.cut.specs.Groups.{merge, mergeAll, upTo, labelsOf};
 ghost use Rattle.cut.specs.Forest.{Climbs, Regrouped, TableWords, Forest, link, linksAcross, tableLinks};

@@ -10,6 +10,12 @@ ghost use Rattle.cut.specs.Renumber.{newNumbers, newVertices, refilled, 
 ghost use Rattle.cut.specs.Cut.{over};
 ghost use Rattle.cut.specs.Forest.{Forest, Renumbered};
 
+fn wide(x: u32) -> usize
+    ensures { λ r. ⌜ r ≡ x ⌝ }
+{
+    x as usize
+}
+
 // Writes each corner's new vertex over the first block, and answers how many new vertices there are.
 fn number(w: &mut [u32], c: usize) -> usize
     requires { ⌜ (length (now w) ≡ 4 * c) × (c < 2 ^ 30) ⌝ }
@@ -17,7 +23,7 @@ fn number(w: &mut [u32], c: usize) -> usize
 {
     let mut k = 0;
     for e in 0..c {
-        let q = w[3 * c + e] as usize;
+        let q = wide(w[3 * c + e]);
         if q < e {
             w[e] = w[q];
         } else {

@@ -1,15 +1,16 @@
 -- Laws of the edge table: what stands at each of its words.
-use Prim.Native.Nat.{ℕ, zero, suc, _+_, _*_, _<_}
+use Prim.Native.Nat.{ℕ, zero, suc, _+_, _*_, _≤_, _<_}
 use mathlib.Core.Path.{_≡_, refl, _∙_, ap}
 use mathlib.Core.List.{List, [], _∷_, _++_}
+use mathlib.Core.Logic.{_↔_}
 use native.Mathlib.Omega.{arith}
 use lib.IntN.{ℤ}
 use lib.ListN.{length, getD, replicate, length-replicate, getD-replicate, length-append, length-map, List·getD-append, List·getD-map}
 use lib.Seq.{getD-append-add}
-use Rattle.edges.specs.Uses.{Use, uses, mateOf}
+use Rattle.edges.specs.Uses.{Use, uses, other, mateOf}
 use Rattle.edges.specs.Table.{nextWords, vertexWords, mateWord, mateWords, tableOf}
 use Rattle.edges.proofs.Uses.{noUse, useAt, corner-at}
-use Rattle.edges.proofs.Mates.{word}
+use Rattle.edges.proofs.Mates.{mate, facesAt, word, mate-alone, mate-other, mate-many, mate-regular, word-alone, word-other, word-many}
 
 -- inside a list it doesn't matter what stands past its end
 getD-any : (xs : List ℕ) (i d f : ℕ) → i < length xs → getD xs i d ≡ getD xs i f
@@ -87,3 +88,19 @@ module _ (l : List ℤ) where
     unfolding tableOf
     table-rest =
         fourth-block c (nextWords (uses l)) (vertexWords (uses l)) (mateWords (uses l)) (replicate c 0) (nexts-long (uses l)) (vertices-long (uses l)) (mates-long (uses l)) (length-replicate c 0) e 0 h ∙ getD-replicate c e 0 0 h
+
+    -- whoever asks the table asks the edge question: the mate's word tells one face, two faces or more
+
+    pub table-one : (getD (tableOf l) (2 * c + e) 0 ≡ e) ↔ (facesAt l e ≡ 1)
+    table-one = rw table-mate (λ q. mate-alone l e h .0 (word-alone l e h q), λ q. ap (mateWord c e) (mate-alone l e h .1 q))
+
+    pub table-two : ((getD (tableOf l) (2 * c + e) 0 ≡ e → ⊥) × (getD (tableOf l) (2 * c + e) 0 ≡ c → ⊥)) ↔ (facesAt l e ≡ 2)
+    table-two = rw table-mate (λ q. mate-other l e h .0 (word l e, word-other l e h (q .0) (q .1)), λ q. regular (mate-other l e h .1 q))
+      where
+        regular : (f : ℕ) × (mate l e ≡ other f) → (word l e ≡ e → ⊥) × (word l e ≡ c → ⊥)
+        regular m =
+            let r = mate-regular l e (m .0) h (m .1) in
+            rw (m .1) (r .differs, λ q. omega (arith, r .below))
+
+    pub table-many : (getD (tableOf l) (2 * c + e) 0 ≡ c) ↔ (3 ≤ facesAt l e)
+    table-many = rw table-mate (λ q. mate-many l e h .0 (word-many l e h q), λ q. ap (mateWord c e) (mate-many l e h .1 q))

@@ -1,5 +1,5 @@
-// Texts read and lists written, one line for each: the three numbers of the answer, and then the whole lent list as a text,
-// so that entries past those read show what they hold. The lent list has four entries of 7.
+// Texts read and lists written, one line for each: the whole lent list as a text, so that entries past those read show what
+// they hold, and then the three numbers of the answer. The lent list has four entries of 7.
 use libc::STDOUT_FILENO;
 ghost use Prim.Native.Nat.{_+_, _≤_};
 ghost use Rattle.list.specs.Limits.{maxEntries};

@@ -1,6 +1,7 @@
 -- `renumber::number` meets its contract: the corners before e have the places of their labels among the roots, and the roots met and left make up all.
+use borrow.Author.Needs.{needs}
 use native.Mathlib.Omega.{arith}
-use Prim.Native.Nat.{_+_, _-_, _*_, _≤_}
+use Prim.Native.Nat.{_-_, _≤_}
 use mathlib.Core.Logic.{⊎-elim}
 use denote.Ref.{now}
 use Rattle.cut.proofs.Numbering.{NumberLoop, number-start, number-turn, numbers-written, vertices-counted}
@@ -14,22 +15,22 @@ abbrev μ-loop : tie.MeasureT-loop
 μ-loop w₀ c k₀ e₀ w k e = c - e
 
 loop-holds : tie.Need-loop-holds Inv-loop μ-loop
-loop-holds c = (omega arith, number-start (now (c .args .w)) (c .args .c))
+loop-holds c = (omega arith, number-start (now (c .before .args .w)) (c .before .args .c))
 
-mul-q : tie.Need-mul-q Inv-loop μ-loop
-mul-q c = omega arith
+mul-wide : tie.Need-mul-wide Inv-loop μ-loop
+mul-wide c = omega arith
 
-add-q : tie.Need-add-q Inv-loop μ-loop
-add-q c = omega arith
+add-wide : tie.Need-add-wide Inv-loop μ-loop
+add-wide c = omega arith
 
-mul-q-2 : tie.Need-mul-q-2 Inv-loop μ-loop
-mul-q-2 c = omega arith
+mul-wide-2 : tie.Need-mul-wide-2 Inv-loop μ-loop
+mul-wide-2 c = omega arith
 
-slice-read-q : tie.Need-slice-read-q Inv-loop μ-loop
-slice-read-q c = omega arith
+slice-read-wide : tie.Need-slice-read-wide Inv-loop μ-loop
+slice-read-wide c = omega arith
 
-cast-q : tie.Need-cast-q Inv-loop μ-loop
-cast-q c = omega (arith, c .slice-known .given (3 * c .before .before .before .args .c + c .before .before .loop .e))
+wide-requires : tie.Need-wide-requires Inv-loop μ-loop
+wide-requires c κs = search needs
 
 mul-w : tie.Need-mul-w Inv-loop μ-loop
 mul-w c = omega arith
@@ -63,10 +64,14 @@ loop-less c = omega arith
 
 loop-again : tie.Need-loop-again Inv-loop μ-loop
 loop-again c =
-    let l = c .before .before .before .loop in
-    let z = c .before .before .before .before in
-    let turn = number-turn (now (z .args .w)) (z .args .c) (z .pre .0) (l .w) (l .k) (l .e) (c .before .before .loop-test .taken) (l .inv .1) in
-    (omega arith, ⊎-elim (λ w. rw (w .2, w .3) (turn .old (w .0 .taken))) (λ w. rw (w .1, w .2) (turn .new (w .0 .left))) (c .if1 .came))
+    let l = c .before .before .before .before .loop in
+    let z = c .before .before .before .before .before .before in
+    let turn = number-turn (now (z .args .w)) (z .args .c) (z .pre .0) (l .w) (l .k) (l .e) (c .before .before .before .loop-test .taken) (l .inv .1) in
+    let parent = c .before .wide .ensures in (
+      omega arith,
+      ⊎-elim (λ w. rw (w .2, w .3, parent) (turn .old (rw parent at (w .0 .taken)))) (λ w. rw (w .1, w .2) (turn .new (rw parent at (w .0 .left))))
+          (c .if1 .came),
+    )
 
 same-length : tie.Need-same-length Inv-loop μ-loop
 same-length c = omega arith
@@ -74,7 +79,7 @@ same-length c = omega arith
 returns : tie.Need-returns Inv-loop μ-loop
 returns c =
     let l = c .before .loop in
-    let z = c .before .before in (
+    let z = c .before .before .before in (
       λ j h. l .inv .1 .low j (omega (arith, c .loop-test .left)),
       λ labels F. (
         numbers-written (now (z .args .w)) (z .args .c) (z .pre .0) (l .w) (l .k) (l .e) (c .loop-test .left) (l .inv .1) labels F,
@@ -89,11 +94,11 @@ number-spec =
     Inv-loop
     μ-loop
     loop-holds
-    mul-q
-    add-q
-    mul-q-2
-    slice-read-q
-    cast-q
+    mul-wide
+    add-wide
+    mul-wide-2
+    slice-read-wide
+    wide-requires
     mul-w
     slice-read-w
     mul-w-2
