@@ -10,8 +10,8 @@ use lib.IntN.{ℤ, pos, negsuc, natAbs}
 use lib.ListN.{length, getD, drop, drop-of-length-le}
 use lib.Seq.{drop-cons}
 use lib.Signed.{mag, ltZ}
-use mir.Syntax.{w32, w64}
-use mir.Val.{ofZ, toZ, Fits}
+use mir.Syntax.{w32}
+use mir.Val.{ofZ, toZ}
 use mir.ValLaws.{toZ-ofZ}
 use Rattle.program.specs.Printed.{countTo, vertexCount}
 
@@ -33,12 +33,12 @@ module _ (z : ℤ) (f : mag z < 2 ^ 31) where
       go (pos k) h = refl
       go (negsuc k) h = absurd (true≢false h)
 
-  pub one-more-fits : Fits w64 (natAbs (toZ w32 (ofZ w32 z)) + 1)
-  one-more-fits = rw back (go z f)
+  pub natural-small : natAbs (toZ w32 (ofZ w32 z)) ≤ 2 ^ 31
+  natural-small = rw back (go z f)
     where
-      go : (z : ℤ) → mag z < 2 ^ 31 → Fits w64 (natAbs z + 1)
-      go (pos k) h = record { fits = omega arith }
-      go (negsuc k) h = record { fits = omega arith }
+      go : (z : ℤ) → mag z < 2 ^ 31 → natAbs z ≤ 2 ^ 31
+      go (pos k) h = omega arith
+      go (negsuc k) h = omega arith
 
 -- a turn of the loop: the entry at place i
 pub count-more : (l : List ℤ) (i : ℕ) → i < length l → vertexCount (drop i l) ≡ max (countTo (getD l i (pos 0))) (vertexCount (drop (i + 1) l))

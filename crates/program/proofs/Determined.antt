@@ -1,13 +1,8 @@
--- "Any two results that its contract admits coincide", for the program's public functions. `Learnt` is what a caller learns from the
--- contract.
+-- "Any two results that its contract admits coincide", for the program's function: the bytes printed, and all behind them. `Learnt` is
+-- what a caller learns from the contract.
 use mathlib.Core.Path.{_≡_, sym, _∙_}
 use contract.Lifetimes.{Lfts}
-use Rattle.program.proofs.max_input.Reads as max-input
 use Rattle.program.proofs.respond.Reads as respond
 
-pub max-input-determined : (κs : Lfts 0) (a : _) (r₁ r₂ : _) (s₁ s₂ : _) → max-input.Learnt κs a r₁ s₁ → max-input.Learnt κs a r₂ s₂ → r₁ ≡ r₂
-max-input-determined κs a r₁ r₂ s₁ s₂ p q = p ∙ sym q
-
--- the bytes printed, and all behind them
 pub respond-determined : (κs : Lfts 1) (a : _) (r₁ r₂ : _) (s₁ s₂ : _) → respond.Learnt κs a r₁ s₁ → respond.Learnt κs a r₂ s₂ → r₁ ≡ r₂
 respond-determined κs a r₁ r₂ s₁ s₂ p q = p ∙ sym q

@@ -2,6 +2,8 @@
 --
 --   countTo x        one more than the entry x; 0 where x is negative
 --   vertexCount l    the n that the program takes: the greatest entry plus one, 0 if none is above -1
+--   space            the byte between two numbers
+--   lineFeed         the byte that ends a line
 --   behind xs        the byte between a number and the numbers xs behind it: a space, or a line feed behind the last
 --   numberText xs    the first number of xs in shortest decimal, and the byte behind it
 --   line xs          the numbers xs with one space between them, on a line of their own
@@ -13,6 +15,7 @@
 --   printedCut l     what is printed for the entries l: the seven numbers, and if accepted the two lists
 --   entriesIn t      the entries that the input t holds
 --   Read l           what is known of entries that were read: they are few enough, and each is of 32 bits
+--   tooLarge         14   the code of an input above the limit
 --   printed t        what is printed for the input t: 14 is looked at first, then 11 to 13, then the cut's codes
 --   codeFor t        the first of the numbers printed for the input t
 --   responseOf t     what is printed, at the start of the program's output, which is 0 behind it
@@ -83,7 +86,6 @@ pub record Read (l : List ℤ) : Type 0 where
   pub few : length l ≤ inputEntries
   pub fit : AllFit l
 
--- the code of an input that is too large
 abbrev pub tooLarge : ℕ
 tooLarge = 14
 

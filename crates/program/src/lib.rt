@@ -30,7 +30,8 @@ pub struct Response {
     pub length: usize,
 }
 
-pub fn max_input() -> usize
+// A clause cannot name the constant: this ties it to its definition.
+fn max_input() -> usize
     ensures { λ r. ⌜ r ≡ inputBytes ⌝ }
 {
     INPUT_BYTES
@@ -104,7 +105,8 @@ fn put_answer(input: &[u8], output: &mut [u8]) -> usize
     put_cut(&list[..entries], output)
 }
 
-// What the program prints for its input, at most OUTPUT_BYTES bytes.
+// What the program prints for its input: the seven numbers, and if the cut is accepted the new list and the map.
+// Refused by 14 where the input is too large, then by 11 to 13 with at most INPUT_ENTRIES entries, then by the cut's codes.
 pub fn respond(input: &[u8]) -> Response
     ensures { λ r. ⌜ r ≡ responseOf (now (input .entry)) ⌝ }
 {

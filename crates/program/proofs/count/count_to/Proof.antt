@@ -1,10 +1,11 @@
 -- `count::count_to` meets its contract: a negative entry counts nothing, any other one more than itself, which fits 64 bits.
+use native.Mathlib.Omega.{arith}
 use borrow.Author.Needs.{needs}
 use lib.IntN.{ℤ, pos}
 use lib.ListN.{getD}
 use denote.Ref.{now}
 use Rattle.list.proofs.Signs.{cast-natural}
-use Rattle.program.proofs.Counting.{negative-none, natural-one-more, one-more-fits}
+use Rattle.program.proofs.Counting.{negative-none, natural-one-more, natural-small}
 use Rattle.program.proofs.count.count_to.Statement.{statement}
 use Rattle.program.proofs.count.count_to.Tie as tie
 
@@ -25,7 +26,7 @@ cast-result : tie.Need-cast-result
 cast-result c = cast-natural (z (c .before)) (c .before .x .given) (c .if1 .left)
 
 add-result : tie.Need-add-result
-add-result c = one-more-fits (z (c .before)) (c .before .x .given)
+add-result c = omega (arith, natural-small (z (c .before)) (c .before .x .given))
 
 returns-2 : tie.Need-returns-2
 returns-2 c = natural-one-more (z (c .before)) (c .before .x .given) (c .if1 .left)
