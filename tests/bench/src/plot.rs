@@ -50,11 +50,9 @@ impl Scale {
     }
 }
 
-/// The times shown in either panel, with some air.
-fn times_range(results: &Results) -> (f64, f64) {
-    let all = results.rows.iter().flatten();
-    let all = all.flat_map(|row| Who::ALL.map(|who| row.ns(who)));
-    let (least, most) = all.fold((f64::MAX, 0f64), |(least, most), ns| {
+/// The range of some times, with some air.
+fn range(times: impl Iterator<Item = f64>) -> (f64, f64) {
+    let (least, most) = times.fold((f64::MAX, 0f64), |(least, most), ns| {
         (least.min(ns), most.max(ns))
     });
     (least * 0.8, most * 1.25)
@@ -124,13 +122,14 @@ fn legend() -> String {
 }
 
 /// Geometric means against the number of entries.
-fn by_size(results: &Results, range: (f64, f64)) -> String {
+fn by_size(results: &Results) -> String {
+    let means = (0..SIZES.len()).flat_map(|size| Who::ALL.map(|who| results.mean_ns(who, size)));
     let across = Scale {
         numbers: (80.0, 82_000.0),
         places: LEFT,
     };
     let up = Scale {
-        numbers: range,
+        numbers: range(means),
         places: (BOTTOM, TOP),
     };
     let mut drawn = title(LEFT.0, TOP - 20.0, "Geometric mean over all families");
@@ -174,9 +173,10 @@ fn by_size(results: &Results, range: (f64, f64)) -> String {
 }
 
 /// Each family at the largest size.
-fn by_family(results: &Results, range: (f64, f64)) -> String {
+fn by_family(results: &Results) -> String {
+    let last = results.rows.iter().map(|rows| rows[SIZES.len() - 1]);
     let across = Scale {
-        numbers: range,
+        numbers: range(last.flat_map(|row| Who::ALL.map(|who| row.ns(who)))),
         places: RIGHT,
     };
     let mut drawn = title(RIGHT.0, TOP - 20.0, "By family at 65,536 entries");
@@ -207,11 +207,10 @@ fn by_family(results: &Results, range: (f64, f64)) -> String {
 
 /// The whole plot.
 pub fn plot(results: &Results) -> String {
-    let range = times_range(results);
     format!(
         "<svg xmlns=\"http://www.w3.org/2000/svg\" width=\"{WIDTH}\" height=\"{HEIGHT}\" viewBox=\"0 0 {WIDTH} {HEIGHT}\" role=\"img\" aria-label=\"Benchmark of the cut: ns per corner\">\n<style>{STYLE}</style>\n<rect width=\"{WIDTH}\" height=\"{HEIGHT}\" fill=\"#fff\"/>\n{}{}{}</svg>\n",
         legend(),
-        by_size(results, range),
-        by_family(results, range)
+        by_size(results),
+        by_family(results)
     )
 }

@@ -25,9 +25,14 @@ pub fn shrink(case: &Case) -> Case {
 }
 
 impl Shrinker {
+    /// Whether the time is over; then no candidate is made any more.
+    fn is_late(&self) -> bool {
+        self.until < Instant::now()
+    }
+
     /// Keeps a candidate that still fails.
     fn keep(&mut self, candidate: Case) -> bool {
-        if self.until < Instant::now() || candidate.verdict().differences.is_empty() {
+        if self.is_late() || candidate.verdict().differences.is_empty() {
             return false;
         }
         self.smallest = candidate;
@@ -53,7 +58,7 @@ impl Shrinker {
         let mut piece = part(&mut self.smallest).len().div_ceil(2);
         while 0 < piece {
             let mut start = 0;
-            while start < part(&mut self.smallest).len() {
+            while start < part(&mut self.smallest).len() && !self.is_late() {
                 let mut candidate = self.smallest.clone();
                 let sequence = part(&mut candidate);
                 let end = sequence.len().min(start + piece);
