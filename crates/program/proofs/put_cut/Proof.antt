@@ -5,14 +5,14 @@ use mathlib.Core.List.{List}
 use native.Mathlib.Omega.{arith}
 use borrow.Author.Needs.{needs}
 use lib.IntN.{ℤ, pos}
-use lib.ListN.{length, replicate}
+use lib.ListN.{length, take, replicate}
 use lib.Seq.{length-take-le}
 use Rattle.text.specs.Steps.{put}
 use Rattle.cut.specs.Groups.{groupLabels}
 use Rattle.cut.specs.Renumber.{newListOf}
 use Rattle.cut.specs.declared.CutAnswer.{CutAnswer}
 use Rattle.program.specs.Limits.{inputEntries}
-use Rattle.program.specs.Printed.{line, listLine, cutNumbers, cutAnswer}
+use Rattle.program.specs.Printed.{vertexCount, line, listLine, cutNumbers, cutAnswer}
 use Rattle.program.proofs.Cutting.{Parts, parts, answer-is, refused-printed, three-lines}
 use Rattle.program.proofs.put_cut.Statement.{statement}
 use Rattle.program.proofs.put_cut.Tie as tie
@@ -24,9 +24,19 @@ entries = replicate inputEntries (pos 0)
 abbrev words : List ℕ
 words = replicate (4 * inputEntries) 0
 
+-- the cut has answered
 module _ (c : tie.After-cut) where
+  abbrev start : tie.Start
+  start = c .before .before .before .before .before .before
+
   abbrev l : List ℤ
-  l = c .before .before .before .before .before .before .args .list .now
+  l = start .args .list .now
+
+  abbrev n : ℕ
+  n = c .before .before .before .before .vertex-count .result
+
+  counted : n ≡ vertexCount l
+  counted = c .before .before .before .before .vertex-count .ensures
 
   abbrev new-list : List ℤ
   new-list = c .cut .last .1 .1 .0
@@ -35,42 +45,52 @@ module _ (c : tie.After-cut) where
   new-map = c .cut .last .1 .1 .1 .0
 
   answer : c .cut .result ≡ cutAnswer l
-  answer =
-      answer-is l (c .before .before .before .before .before .before .pre .0) entries entries words refl refl refl (c .before .before .before .before .vertex-count .result) (c .before .before .before .before .vertex-count .ensures)
-      (c .cut .result) (c .cut .ensures .0)
+  answer = answer-is l (start .pre .0) entries entries words refl refl refl n counted (c .cut .result) (c .cut .ensures .0)
 
   written : c .cut .result .code ≡ 0 → Parts l (c .cut .result .vertices) new-list new-map
   written ok =
-      parts l (c .before .before .before .before .before .before .pre .0) entries entries words refl refl refl (c .before .before .before .before .vertex-count .result) (c .before .before .before .before .vertex-count .ensures)
-      (c .cut .result) (c .cut .ensures .0) new-list new-map (c .cut .ensures .1 .0) (c .cut .ensures .1 .1 .0) (c .cut .kept .1 .1 .1 .0) ok
+      parts l (start .pre .0) entries entries words refl refl refl n counted (c .cut .result) (c .cut .ensures .0)
+      new-list new-map (c .cut .ensures .1 .0) (c .cut .ensures .1 .1 .0) (c .cut .kept .1 .1 .1 .0) ok
 
--- the numbers on the first line
+-- the numbers are on the first line
 module _ (c : tie.After-put-line) where
-  numbers : c .before .before .before .numbers-of .result ≡ cutNumbers (cutAnswer (l (c .before .before .before .before .before .before .before)))
-  numbers = c .before .before .before .numbers-of .ensures ∙ ap cutNumbers (answer (c .before .before .before .before .before .before .before))
+  abbrev cut-made : tie.After-cut
+  cut-made = c .before .before .before .before .before .before .before
 
-  at-is : c .put-line .result ≡ length (line (cutNumbers (cutAnswer (l (c .before .before .before .before .before .before .before)))))
+  abbrev output : List ℕ
+  output = start cut-made .args .output .now
+
+  numbers : c .before .before .before .numbers-of .result ≡ cutNumbers (cutAnswer (l cut-made))
+  numbers = c .before .before .before .numbers-of .ensures ∙ ap cutNumbers (answer cut-made)
+
+  at-is : c .put-line .result ≡ length (line (cutNumbers (cutAnswer (l cut-made))))
   at-is = c .put-line .ensures .0 .0 ∙ ap (λ (xs : List ℕ). length (line xs)) numbers
 
-  put-is : c .put-line .last .1 .0 ≡ put 0 (line (cutNumbers (cutAnswer (l (c .before .before .before .before .before .before .before))))) (c .before .before .before .before .before .before .before .before .before .before .before .before .before .args .output .now)
-  put-is = c .put-line .ensures .1 ∙ ap (λ (xs : List ℕ). put 0 (line xs) (c .before .before .before .before .before .before .before .before .before .before .before .before .before .args .output .now)) numbers
+  put-is : c .put-line .last .1 .0 ≡ put 0 (line (cutNumbers (cutAnswer (l cut-made)))) output
+  put-is = c .put-line .ensures .1 ∙ ap (λ (xs : List ℕ). put 0 (line xs) output) numbers
 
   at-small : c .put-line .result ≤ 147
   at-small = omega (arith, c .put-line .ensures .0 .1, ap length numbers)
 
--- the new list on the second line
+-- the new list is on the second line
 module _ (c : tie.After-put-list) where
-  abbrev made : tie.After-cut
-  made = c .before .before .before .before .before .before .before .before .before .before .before .before .before
+  abbrev line-put : tie.After-put-line
+  line-put = c .before .before .before .before .before .before
 
-  behind-is : c .put-list .result ≡ c .before .before .before .before .before .before .put-line .result + length (listLine (newListOf (l made) (groupLabels (l made))))
-  behind-is =
-      c .put-list .ensures .0 ∙ ap (λ (x : List ℤ). c .before .before .before .before .before .before .put-line .result + length (listLine x)) (written made (c .before .before .before .if1 .left) .new-list)
+  abbrev at : ℕ
+  at = line-put .put-line .result
 
-  list-put-is : c .put-list .last .1 .0 ≡ put (c .before .before .before .before .before .before .put-line .result) (listLine (newListOf (l made) (groupLabels (l made)))) (c .before .before .before .before .before .before .put-line .last .1 .0)
-  list-put-is =
-      c .put-list .ensures .1
-      ∙ ap (λ (x : List ℤ). put (c .before .before .before .before .before .before .put-line .result) (listLine x) (c .before .before .before .before .before .before .put-line .last .1 .0)) (written made (c .before .before .before .if1 .left) .new-list)
+  abbrev list : List ℤ
+  list = l (cut-made line-put)
+
+  new-list-is : take (length list) (new-list (cut-made line-put)) ≡ newListOf list (groupLabels list)
+  new-list-is = written (cut-made line-put) (c .before .before .before .if1 .left) .new-list
+
+  behind-is : c .put-list .result ≡ at + length (listLine (newListOf list (groupLabels list)))
+  behind-is = c .put-list .ensures .0 ∙ ap (λ (x : List ℤ). at + length (listLine x)) new-list-is
+
+  list-put-is : c .put-list .last .1 .0 ≡ put at (listLine (newListOf list (groupLabels list))) (line-put .put-line .last .1 .0)
+  list-put-is = c .put-list .ensures .1 ∙ ap (λ (x : List ℤ). put at (listLine x) (line-put .put-line .last .1 .0)) new-list-is
 
 vertex-count-requires : tie.Need-vertex-count-requires
 vertex-count-requires c κs = search needs
