@@ -187,5 +187,5 @@ fn main() {
     ask(&[0, 1, 2, -1, 0, 3, 0, -1], 4, 1, 1);
     show_long(1, false, 16386);
     show_long(3, false, 49156);
-    show_long(3, true, 65536);
+    show_long(3, true, list::IndexList::MAX_VERTICES);
 }
