@@ -11,8 +11,8 @@ use lib.Dec.{eqb}
 use lib.IntN.{ℤ, pos}
 use lib.ListN.{length, getD, take, drop, set, replicate, length-set, length-map, List·getD-map, drop-of-length-le, length-replicate, getD-replicate}
 use lib.Seq.{drop-cons, take-suc, set-set, set-getD, getD-set-same, getD-set-other}
-use Rattle.list.specs.Faces.{num, vertices}
-use Rattle.list.specs.Check.{elem, repeatAfter, firstRepeat}
+use Rattle.list.specs.Faces.{num, vertices, firstWhere}
+use Rattle.list.specs.Check.{isVertex, elem, repeatAfter, firstRepeat}
 use Rattle.list.specs.Flags.{seenTo, marked, Clear, Marked}
 
 pub vertex-of : (l : List ℤ) (i : ℕ) → getD (vertices l) i 0 ≡ num (getD l i (pos 0))
@@ -31,15 +31,22 @@ module _ (v : ℕ) where
   elem-append [] ys = refl
   elem-append (x ∷ xs) ys = rw (elem-append xs ys) (sym (or-assoc (eqb v x) (elem v xs) (elem v ys)))
 
-  module _ (l : List ℤ) (i : ℕ) (h : i < length l) where
-    pub elem-here : num (getD l i (pos 0)) ≡ v → elem v (vertices (drop i l)) ≡ true
-    elem-here e = rw (drop-cons l i (pos 0), eq-eqb v (num (getD l i (pos 0))) (sym e))
+  -- a vertex is in a part exactly when it has a place there
+  pub placed : (l : List ℤ) → firstWhere (isVertex v) l < length l → elem v (vertices l) ≡ true
+  placed [] h = absurd (omega arith)
+  placed (x ∷ xs) h = go (placed xs) (eqb v (num x)) h
+    where
+      go : (firstWhere (isVertex v) xs < length xs → elem v (vertices xs) ≡ true) → (b : Bool) → cond b 0 (suc (firstWhere (isVertex v) xs)) < suc (length xs) → (b || elem v (vertices xs)) ≡ true
+      go ih true h = refl
+      go ih false h = ih (omega arith)
 
-    pub elem-later : (num (getD l i (pos 0)) ≡ v → ⊥) → elem v (vertices (drop i l)) ≡ elem v (vertices (drop (i + 1) l))
-    elem-later e = rw (drop-cons l i (pos 0), ne-eqb v (num (getD l i (pos 0))) (λ q. e (sym q)), add-one)
-
-  pub elem-past : (l : List ℤ) (i : ℕ) → length l ≤ i → elem v (vertices (drop i l)) ≡ false
-  elem-past l i h = rw (drop-of-length-le l h)
+  pub unplaced : (l : List ℤ) → length l ≤ firstWhere (isVertex v) l → elem v (vertices l) ≡ false
+  unplaced [] h = refl
+  unplaced (x ∷ xs) h = go (unplaced xs) (eqb v (num x)) h
+    where
+      go : (length xs ≤ firstWhere (isVertex v) xs → elem v (vertices xs) ≡ false) → (b : Bool) → suc (length xs) ≤ cond b 0 (suc (firstWhere (isVertex v) xs)) → (b || elem v (vertices xs)) ≡ false
+      go ih true h = absurd (omega arith)
+      go ih false h = ih (omega arith)
 
   -- the vertices seen are those before the place
   pub elem-seen : (vs : List ℕ) (j : ℕ) → j ≤ length vs → elem v (seenTo vs j) ≡ elem v (take j vs)

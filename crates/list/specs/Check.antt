@@ -2,6 +2,7 @@
 --
 --   outside n x         the entry x is below -1 or at least n
 --   firstOutside n r    the place in the face r of its first entry outside; r's length if there is none
+--   isVertex v x        the entry x is the vertex v
 --   elem v vs           the vertex v is one of vs
 --   firstRepeat vs      the place of the first vertex equal to an earlier one of vs; vs's length if there is none
 --   faceFault n r       the first fault of the face r, in the order of the codes
@@ -17,7 +18,7 @@ use lib.Dec.{leb, ltb, eqb}
 use lib.IntN.{ℤ, pos, negsuc}
 use lib.ListN.{length, getD}
 use Rattle.list.specs.Limits.{maxEntries, maxVertices}
-use Rattle.list.specs.Faces.{Face, faces, runs, corners, vertices, firstWhere}
+use Rattle.list.specs.Faces.{Face, faces, runs, corners, num, vertices, firstWhere}
 use Rattle.list.specs.declared.FaceFault.{FaceFault}
 use Rattle.list.specs.declared.FaceFault.the-variants as Fault·
 use Rattle.list.specs.declared.CheckAnswer.{CheckAnswer}
@@ -29,6 +30,9 @@ outside n (negsuc (suc k)) = true
 
 abbrev pub firstOutside : ℕ → List ℤ → ℕ
 firstOutside n r = firstWhere (outside n) r
+
+abbrev pub isVertex : ℕ → ℤ → Bool
+isVertex v x = eqb v (num x)
 
 abbrev pub elem : ℕ → List ℕ → Bool
 elem v [] = false

@@ -1,6 +1,6 @@
 // Signed entries, read at a position of a list. These functions and `vertex_at` alone look at an entry's sign.
 ghost use mathlib.Core.Path.{_≡_};
-ghost use Prim.Native.Nat.{_+_, _<_, _≤_};
+ghost use Prim.Native.Nat.{_+_, _<_};
 ghost use lib.ListN.{length, getD, drop};
 ghost use lib.IntN.{pos};
 ghost use Rattle.list.specs.Faces.{isEnd, runLength};
@@ -24,9 +24,9 @@ pub fn outside_at(l: &[i32], i: usize, n: usize) -> bool
     n <= x as usize
 }
 
-// The position of the -1 that ends the face which starts at `at`, or the list's length if the list ends first.
+// The position of the -1 that ends the face which starts at `at`, or the list's length if the list ends first; `at` itself where
+// the list ends before it.
 pub fn run_end(l: &[i32], at: usize) -> usize
-    requires { ⌜ at ≤ length (now l) ⌝ }
     ensures { λ r. ⌜ r ≡ at + runLength (drop at (now (l .entry))) ⌝ }
 {
     let mut i = at;

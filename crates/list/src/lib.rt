@@ -61,6 +61,9 @@ impl IndexList {
 
     pub const MAX_VERTICES: usize = 65_536;
 
+    // A table for at most so many vertices is quick to clear.
+    pub const FEW_VERTICES: usize = 4_096;
+
     pub fn max_entries() -> usize
         ensures { λ r. ⌜ r ≡ maxEntries ⌝ }
     {
@@ -87,10 +90,10 @@ impl Cursor {
         ensures { λ r. ⌜ r ≡ stepAt (now (list .entry)) (self .at) ⌝ }
     {
         let start = self.at;
+        let end = entry::run_end(list, start);
         if list.len() <= start {
             return Step::Done;
         }
-        let end = entry::run_end(list, start);
         Step::Face {
             start,
             end,
@@ -133,6 +136,10 @@ pub fn check(list: &[i32], n: usize) -> CheckAnswer
     }
     if IndexList::max_vertices() < n {
         return refused(2, 0);
+    }
+    if n <= IndexList::FEW_VERTICES {
+        let mut few = [0u8; IndexList::FEW_VERTICES];
+        return check_faces(list, n, &mut few);
     }
     let mut flags = [0u8; IndexList::MAX_VERTICES];
     check_faces(list, n, &mut flags)

@@ -1,8 +1,8 @@
 // The rules that a face is held to. Each takes one face as a part of the list that starts in its middle.
 ghost use mathlib.Core.Path.{_≡_};
 ghost use lib.ListN.{length, replicate};
-ghost use Rattle.list.specs.Faces.{vertices};
-ghost use Rattle.list.specs.Check.{elem, firstOutside, firstRepeat, faceFault};
+ghost use Rattle.list.specs.Faces.{vertices, firstWhere};
+ghost use Rattle.list.specs.Check.{isVertex, firstOutside, firstRepeat, faceFault};
 ghost use Rattle.list.specs.Flags.{Flags, Clear, Marked, marked, seenTo};
 use crate::FaceFault;
 
@@ -24,18 +24,18 @@ pub fn first_outside(face: &[i32], n: usize) -> usize
     i
 }
 
-// Whether v is one of the part's vertices.
-pub fn is_in(part: &[i32], v: usize) -> bool
-    ensures { λ r. ⌜ r ≡ elem v (vertices (now (part .entry))) ⌝ }
+// The place of the vertex v in the part; the part's length if it is not there.
+pub fn place_in(part: &[i32], v: usize) -> usize
+    ensures { λ r. ⌜ r ≡ firstWhere (isVertex v) (now (part .entry)) ⌝ }
 {
     let mut i = 0;
     while i < part.len() {
         if crate::vertex_at(part, i) == v {
-            return true;
+            return i;
         }
         i += 1;
     }
-    false
+    i
 }
 
 // The first repeat of a short face: each entry, from the left, is looked for in the part before it.
@@ -45,7 +45,8 @@ pub fn repeat_by_looking(face: &[i32]) -> usize
     let mut j = 0;
     while j < face.len() {
         let v = crate::vertex_at(face, j);
-        if is_in(&face[..j], v) {
+        let earlier = place_in(&face[..j], v);
+        if earlier < j {
             return j;
         }
         j += 1;

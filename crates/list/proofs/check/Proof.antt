@@ -1,7 +1,11 @@
 -- `check` meets its contract: the limits are looked at first, then the faces, with a flag for each vertex there may be.
-use mathlib.Core.Path.{_∙_}
+use mathlib.Core.Path.{_≡_, _∙_}
 use native.Mathlib.Omega.{arith}
+use lib.ListN.{length}
 use denote.Ref.{now}
+use Rattle.list.specs.Faces.{faces, corners}
+use Rattle.list.specs.Check.{checkOf, checkFaces, accepted}
+use Rattle.list.specs.declared.CheckAnswer.{CheckAnswer}
 use Rattle.list.specs.Limits.{maxVertices}
 use Rattle.list.proofs.Checking.{check-entries, check-vertices, check-faces, flags-new}
 use borrow.Author.Needs.{needs}
@@ -33,21 +37,34 @@ returns-2 c =
     c .refused2 .ensures
     ∙ check-vertices (now (s .args .list)) (s .args .n) (omega (arith, e .if1 .left, e .before .max-entries .ensures)) (omega (arith, c .before .if2 .taken, c .before .before .max-vertices .ensures))
 
+-- the list is within the limits
+faces-checked : (e : tie.Else2) (r : CheckAnswer) → r ≡ checkFaces (e .before .before .before .before .args .n) (faces (now (e .before .before .before .before .args .list))) (accepted (length (faces (now (e .before .before .before .before .args .list)))) (length (corners (now (e .before .before .before .before .args .list))))) → r ≡ checkOf (now (e .before .before .before .before .args .list)) (e .before .before .before .before .args .n)
+faces-checked e r q =
+    let v = e .before .before in
+    let s = v .before .before in
+    q
+    ∙ check-faces (now (s .args .list)) (s .args .n) (omega (arith, v .if1 .left, v .before .max-entries .ensures)) (omega (arith, e .if2 .left, e .before .max-vertices .ensures))
+
 slice-aggregate-check-faces : tie.Need-slice-aggregate-check-faces
 slice-aggregate-check-faces c = search needs
 
 check-faces-requires : tie.Need-check-faces-requires
 check-faces-requires c κs =
-    let e = c .before in
-    flags-new (e .before .before .before .before .args .n) maxVertices (omega (arith, e .if2 .left, e .before .max-vertices .ensures)) (omega arith)
+    flags-new (c .before .before .before .before .before .before .args .n) _ (c .before .if3 .taken) (omega arith)
 
 returns-3 : tie.Need-returns-3
-returns-3 c =
-    let f = c .before .before .before in
-    let e = f .before .before in
-    let s = e .before .before in
-    c .before .check-faces .ensures
-    ∙ check-faces (now (s .args .list)) (s .args .n) (omega (arith, e .if1 .left, e .before .max-entries .ensures)) (omega (arith, f .if2 .left, f .before .max-vertices .ensures))
+returns-3 c = faces-checked (c .before .before .before .before) _ (c .before .check-faces .ensures)
+
+slice-aggregate-check-faces-2 : tie.Need-slice-aggregate-check-faces-2
+slice-aggregate-check-faces-2 c = search needs
+
+check-faces-requires-2 : tie.Need-check-faces-requires-2
+check-faces-requires-2 c κs =
+    let e = c .before .before in
+    flags-new (e .before .before .before .before .args .n) maxVertices (omega (arith, e .if2 .left, e .before .max-vertices .ensures)) (omega arith)
+
+returns-4 : tie.Need-returns-4
+returns-4 c = faces-checked (c .before .before .before .before) _ (c .before .check-faces2 .ensures)
 
 pub check-spec : {M : Type 1} → statement M
 check-spec =
@@ -61,4 +78,7 @@ check-spec =
     returns-2
     slice-aggregate-check-faces
     check-faces-requires
-    returns-3)
+    returns-3
+    slice-aggregate-check-faces-2
+    check-faces-requires-2
+    returns-4)

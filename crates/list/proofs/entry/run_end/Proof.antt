@@ -1,5 +1,5 @@
 -- `entry::run_end` meets its contract: the entries passed and the run that is left always make up the run at the start.
-use Prim.Native.Nat.{_+_, _-_, _≤_}
+use Prim.Native.Nat.{_+_, _-_}
 use mathlib.Core.Path.{_≡_, refl, sym, _∙_}
 use native.Mathlib.Omega.{arith}
 use lib.ListN.{length, drop}
@@ -10,13 +10,13 @@ use Rattle.list.proofs.entry.run_end.Statement.{statement}
 use Rattle.list.proofs.entry.run_end.Tie as tie
 
 abbrev Inv-loop : tie.InvT-loop
-Inv-loop l at i₀ i = (i ≤ length l) × (i + runLength (drop i l) ≡ at + runLength (drop at l))
+Inv-loop l at i₀ i = i + runLength (drop i l) ≡ at + runLength (drop at l)
 
 abbrev μ-loop : tie.MeasureT-loop
 μ-loop l at i₀ i = length l - i
 
 loop-holds : tie.Need-loop-holds Inv-loop μ-loop
-loop-holds c = (c .pre, refl)
+loop-holds c = refl
 
 end-at-requires : tie.Need-end-at-requires Inv-loop μ-loop
 end-at-requires c κs = c .loop-test .taken
