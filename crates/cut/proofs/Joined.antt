@@ -10,7 +10,7 @@ use lib.ListN.{length, set, length-set, length-map}
 use lib.Seq.{getD-set-same, getD-set-other, take-set-le}
 use Rattle.cut.specs.Groups.{Link, merge, mergeAll, replaced}
 use Rattle.cut.proofs.Counting.{map-at}
-use Rattle.cut.specs.Forest.{at, link, Forest, Climbs, Regrouped, linksAcross}
+use Rattle.cut.specs.Forest.{at, link, Forest, Rises, Climbs, Regrouped, linksAcross}
 
 replaced-from : (b a : ℕ) → replaced b a b ≡ a
 replaced-from b a = rw (eq-eqb b b refl)
@@ -64,15 +64,22 @@ module _ (w : List ℕ) (p : ℕ) (labels : List ℕ) (F : Forest w p labels) (a
         root = λ i h. root i (omega arith) (eqb i b) refl;
       }
 
+-- going on from child to parent
+pub rises-on : (w : List ℕ) (p x r q : ℕ) → Rises w p x r → Rises w p r q → Rises w p x q
+rises-on w p x r q R Q = record { below = omega (arith, R .below, Q .below); along = λ f h. Q .along f h ∙ R .along f h }
+
+pub rises-parent : (w : List ℕ) (p x : ℕ) → p + x < length w → at w (p + x) < x → Rises w p x (at w (p + x))
+rises-parent w p x h q = record { below = omega arith; along = λ f g. g x h }
+
 -- the roots a and b of the corners x and y are their labels
 module _ (w : List ℕ) (p : ℕ) (labels : List ℕ) (F : Forest w p labels) (x r : ℕ) (inside : x < length labels) (C : Climbs w p x r) where
   pub root-is-label : at labels x ≡ r
   root-is-label =
-      let own : at w (p + r) ≡ r = omega (arith, C .below, C .stops, F .down r (omega (arith, C .below))) in
-      sym (C .along (at labels) (λ i h. F .same i (omega (arith, F .long)))) ∙ F .root r (omega (arith, C .below)) own
+      let own : at w (p + r) ≡ r = omega (arith, C .rises .below, C .stops, F .down r (omega (arith, C .rises .below))) in
+      sym (C .rises .along (at labels) (λ i h. F .same i (omega (arith, F .long)))) ∙ F .root r (omega (arith, C .rises .below)) own
 
   pub label-of-root : at labels r ≡ r
-  label-of-root = C .along (at labels) (λ i h. F .same i (omega (arith, F .long))) ∙ root-is-label
+  label-of-root = C .rises .along (at labels) (λ i h. F .same i (omega (arith, F .long))) ∙ root-is-label
 
 module _ (w : List ℕ) (p : ℕ) (labels : List ℕ) (F : Forest w p labels) (x y a b : ℕ) (hx : x < length labels) (hy : y < length labels) (A : Climbs w p x a) (B : Climbs w p y b) where
   merge-is : (lo hi : ℕ) → min a b ≡ lo → max a b ≡ hi → merge labels (link x y) ≡ map (replaced hi lo) labels
@@ -81,12 +88,12 @@ module _ (w : List ℕ) (p : ℕ) (labels : List ℕ) (F : Forest w p labels) (x
   pub join-second : a ≤ b → Forest (set w (p + b) a) p (merge labels (link x y))
   join-second h =
       rw (merge-is a b (omega arith) (omega arith))
-      (forest-under w p labels F a b h (omega (arith, B .below)) (label-of-root w p labels F x a hx A) (label-of-root w p labels F y b hy B))
+      (forest-under w p labels F a b h (omega (arith, B .rises .below)) (label-of-root w p labels F x a hx A) (label-of-root w p labels F y b hy B))
 
   pub join-first : b ≤ a → Forest (set w (p + a) b) p (merge labels (link x y))
   join-first h =
       rw (merge-is b a (omega arith) (omega arith))
-      (forest-under w p labels F b a h (omega (arith, A .below)) (label-of-root w p labels F y b hy B) (label-of-root w p labels F x a hx A))
+      (forest-under w p labels F b a h (omega (arith, A .rises .below)) (label-of-root w p labels F y b hy B) (label-of-root w p labels F x a hx A))
 
 -- one of the two joins, as the code makes it
 module _ (w : List ℕ) (p x y a b : ℕ) (hx : p + x < length w) (hy : p + y < length w) (A : Climbs w p x a) (B : Climbs w p y b) where

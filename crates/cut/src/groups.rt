@@ -3,14 +3,29 @@ ghost use mathlib.Core.Path.{_≡_};
 ghost use Prim.Native.Nat.{_+_, _-_, _*_, _<_, _≤_, _^_};
 ghost use lib.ListN.{length, take};
 ghost use Rattle.cut.specs.Groups.{merge, mergeAll, upTo, labelsOf};
-ghost use Rattle.cut.specs.Forest.{Climbs, Regrouped, TableWords, Forest, link, linksAcross, tableLinks};
+ghost use Rattle.cut.specs.Forest.{Rises, Climbs, Regrouped, TableWords, Forest, link, linksAcross, tableLinks};
 
-// The corner at which the way from x over parents ends. It only reads.
+// The parent of the corner x where that is earlier, else x itself.
+fn parent(w: &[u32], p: usize, x: usize) -> usize
+    requires { ⌜ p + x < length (now w) ⌝ }
+    ensures { λ r. ⌜ Rises (now (w .entry)) p x r ⌝ }
+{
+    let q = w[p + x] as usize;
+    if q < x {
+        q
+    } else {
+        x
+    }
+}
+
+// The corner at which the way from x over parents ends. It only reads. Most ways have at most two steps: those two are taken
+// without a test, since how many there are cannot be guessed.
 fn root(w: &[u32], p: usize, x: usize) -> usize
     requires { ⌜ p + x < length (now w) ⌝ }
     ensures { λ r. ⌜ Climbs (now (w .entry)) p x r ⌝ }
 {
-    let mut r = x;
+    let near = parent(w, p, x);
+    let mut r = parent(w, p, near);
     while (w[p + r] as usize) < r {
         r = w[p + r] as usize;
     }

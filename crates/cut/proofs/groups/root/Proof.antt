@@ -1,41 +1,49 @@
 -- `groups::root` meets its contract: each step goes to a parent, which is in the same group and earlier, and a corner whose parent is not earlier ends it.
-use Prim.Native.Nat.{ℕ, _+_, _≤_, _<_}
-use mathlib.Core.Path.{_≡_, refl, _∙_}
-use lib.ListN.{length}
-use Rattle.cut.specs.Forest.{at}
+use Prim.Native.Nat.{_+_}
+use denote.Ref.{now}
+use Rattle.cut.specs.Forest.{Rises}
 use native.Mathlib.Omega.{arith}
+use Rattle.cut.proofs.Joined.{rises-on, rises-parent}
 use Rattle.cut.proofs.groups.root.Statement.{statement}
 use Rattle.cut.proofs.groups.root.Tie as tie
 
 abbrev Inv-loop : tie.InvT-loop
-Inv-loop w p x r₀ r = (r ≤ x) × ((f : ℕ → ℕ) → ((i : ℕ) → p + i < length w → f (at w (p + i)) ≡ f i) → f r ≡ f x)
+Inv-loop w p x near r₀ r = Rises w p x r
 
 abbrev μ-loop : tie.MeasureT-loop
-μ-loop w p x r₀ r = r
+μ-loop w p x near r₀ r = r
+
+parent-requires : tie.Need-parent-requires Inv-loop μ-loop
+parent-requires c κs = c .before .pre
+
+parent-requires-2 : tie.Need-parent-requires-2 Inv-loop μ-loop
+parent-requires-2 c κs = omega (arith, c .before .before .pre, c .parent .ensures .below)
 
 loop-holds : tie.Need-loop-holds Inv-loop μ-loop
-loop-holds c = (omega arith, λ f h. refl)
+loop-holds c =
+    let z = c .before .before .before in
+    rises-on (now (z .args .w)) (z .args .p) (z .args .x) (c .before .parent .result) (c .parent2 .result) (c .before .parent .ensures) (c .parent2 .ensures)
 
 add-if1 : tie.Need-add-if1 Inv-loop μ-loop
-add-if1 c = omega arith
+add-if1 c = omega (arith, c .loop .inv .below)
 
 mul-if1 : tie.Need-mul-if1 Inv-loop μ-loop
 mul-if1 c = omega arith
 
 shared-slice-read-if1 : tie.Need-shared-slice-read-if1 Inv-loop μ-loop
-shared-slice-read-if1 c = omega arith
+shared-slice-read-if1 c = omega (arith, c .before .loop .inv .below)
 
 cast-if1 : tie.Need-cast-if1 Inv-loop μ-loop
-cast-if1 c = omega (arith, c .shared-slice-known .given (c .before .before .args .p + c .before .loop .r))
+cast-if1 c = omega (arith, c .shared-slice-known2 .given (c .before .before .before .before .before .args .p + c .before .loop .r))
 
 add-r : tie.Need-add-r Inv-loop μ-loop
-add-r c = omega arith
+add-r c = omega (arith, c .before .before .loop .inv .below)
 
 mul-r : tie.Need-mul-r Inv-loop μ-loop
 mul-r c = omega arith
 
 shared-slice-read-r : tie.Need-shared-slice-read-r Inv-loop μ-loop
-shared-slice-read-r c = omega arith
+shared-slice-read-r c = omega (arith, c .before .before .before .loop .inv .below)
 
 cast-r : tie.Need-cast-r Inv-loop μ-loop
 cast-r c = omega arith
@@ -45,13 +53,13 @@ loop-less c = omega arith
 
 loop-again : tie.Need-loop-again Inv-loop μ-loop
 loop-again c =
-    let z = c .before .before .before in
-    (omega arith, λ f h. h (z .loop .r) (omega arith) ∙ z .loop .inv .1 f h)
+    let l = c .before .before .before in
+    let z = l .before .before .before .before in
+    rises-on (now (z .args .w)) (z .args .p) (z .args .x) (l .loop .r) _ (l .loop .inv)
+    (rises-parent (now (z .args .w)) (z .args .p) (l .loop .r) (omega (arith, l .loop .inv .below)) (c .before .if1 .taken))
 
 returns : tie.Need-returns Inv-loop μ-loop
-returns c =
-    let z = c .before .before in
-    record { below = z .loop .inv .0; stops = c .if1 .left; along = z .loop .inv .1 }
+returns c = record { rises = c .before .before .loop .inv; stops = c .if1 .left }
 
 pub root-spec : {M : Type 1} → statement M
 root-spec =
@@ -59,6 +67,8 @@ root-spec =
     (tie.spec
     Inv-loop
     μ-loop
+    parent-requires
+    parent-requires-2
     loop-holds
     add-if1
     mul-if1
