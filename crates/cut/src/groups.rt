@@ -11,11 +11,7 @@ fn parent(w: &[u32], p: usize, x: usize) -> usize
     ensures { λ r. ⌜ Rises (now (w .entry)) p x r ⌝ }
 {
     let q = w[p + x] as usize;
-    if q < x {
-        q
-    } else {
-        x
-    }
+    if q < x { q } else { x }
 }
 
 // The corner at which the way from x over parents ends. It only reads. Most ways have at most two steps: those two are taken

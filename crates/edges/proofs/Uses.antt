@@ -10,7 +10,7 @@ use mathlib.Core.List.{List, [], _∷_, _++_}
 use native.Mathlib.Omega.{arith}
 use native.Mathlib.Nat.{add-zero, add-suc, suc-add, zero-add}
 use native.Mathlib.Numerals.{add-one}
-use borrow.Author.Tests.{eqb-false, ltb-true, ltb-false}
+use borrow.Author.Tests.{ne-eqb, eqb-false, ltb-true, ltb-false}
 use lib.Dec.{eqb, ltb, eqb·zero-suc, eqb·suc-suc}
 use lib.IntN.{ℤ, pos}
 use lib.ListN.{length, getD, length-append, length-map, List·getD-append, List·getD-map}
@@ -123,6 +123,9 @@ next-inside m i h = go (eqb (suc i) m) refl
     go : (b : Bool) → eqb (suc i) m ≡ b → cond b 0 (suc i) < m
     go true e = omega arith
     go false e = omega (arith, eqb-false (suc i) m e)
+
+pub next-later : (m i : ℕ) → i + 1 < m → nextIn m i ≡ i + 1
+next-later m i h = rw (ne-eqb (suc i) m (omega arith), add-one i)
 
 -- the next corner of a use is the corner of the use that starts where it ends: uses us that start with corner c
 pub record Follows (c : ℕ) (us : List Use) (i : ℕ) : Type 0 where

@@ -18,8 +18,8 @@ use Rattle.list.specs.declared.Cursor.{Cursor}
 use Rattle.list.proofs.Runs.{Stepped}
 use Rattle.list.proofs.Repeats.{vertices-long}
 use Rattle.edges.specs.Uses.{Use, usesOfFace, usesFrom, uses}
-use Rattle.edges.specs.Table.{nextWords}
 use Rattle.edges.specs.Sort.{part, Kept}
+use Rattle.edges.specs.Words.{CornersWritten}
 use Rattle.edges.proofs.Lists.{map-append}
 use Rattle.edges.proofs.Uses.{uses-long, uses-face-long, from-face}
 use Rattle.edges.proofs.Parts.{part-add, kept-part, kept-trans, kept-wider}
@@ -121,22 +121,27 @@ pub record Wording (l : List ℤ) (c i at : ℕ) (w₀ w : List ℕ) : Type 0 wh
   pub froms : Written from-of c l i at w
   pub kept : Kept 0 (2 * c) w₀ w
 
-module _ (l : List ℤ) (c i at s e : ℕ) (cur : Cursor) (t : Stepped l i s e cur) (w₀ w w₁ w₂ : List ℕ) (O : Wording l c i at w₀ w) (u : length (uses l) ≡ c) (fits : 2 * c ≤ length w₀) where
+module _ (l : List ℤ) (c i at s e : ℕ) (cur : Cursor) (t : Stepped l i s e cur) (w₀ w w₂ : List ℕ) (O : Wording l c i at w₀ w) (u : length (uses l) ≡ c) (fits : 2 * c ≤ length w₀) where
   abbrev f : List ℤ
   f = take (e - s) (drop s l)
 
-  pub wording-turn : part at (length f) w₁ ≡ nextWords (usesOfFace at (vertices f)) → Kept at (length f) w w₁ → part (c + at) (length f) w₂ ≡ vertices f → Kept (c + at) (length f) w₁ w₂ → Wording l c (cur .at) (at + (e - s)) w₀ w₂
-  wording-turn n₁ k₁ n₂ k₂ =
+  pub wording-turn : CornersWritten c at f w w₂ → Wording l c (cur .at) (at + (e - s)) w₀ w₂
+  wording-turn C =
       let W = O .walking in
+      let w₁ = C .between in
+      let n₁ = C .nexts in
+      let k₁ = C .nexts-kept in
+      let n₂ = C .froms in
+      let k₂ = C .froms-kept in
       record {
         walking = walking-next maxVertices l i at s e cur t W;
-        nexts = written-next maxVertices l i at s e cur t W next-of 0 w w₂ (kept-part (c + at) (length f) 0 at w₁ w₂ (inl (omega arith)) (omega (arith, within)) k₂ ∙ kept-part at (length f) 0 at w w₁ (inl (omega arith)) (omega (arith, within)) k₁) (rw zero-add (kept-part (c + at) (length f) at (length f) w₁ w₂ (inl (omega (arith, room))) (omega (arith, room, within)) k₂ ∙ n₁)) (O .nexts);
-        froms = written-next maxVertices l i at s e cur t W from-of c w w₂ (kept-part (c + at) (length f) c at w₁ w₂ (inl (omega arith)) (omega (arith, room, within)) k₂ ∙ kept-part at (length f) c at w w₁ (inr (omega (arith, room))) (omega (arith, room, within)) k₁) (n₂ ∙ sym (from-face at (vertices f))) (O .froms);
+        nexts = written-next maxVertices l i at s e cur t W next-of 0 w w₂ (kept-part (c + at) (length f) 0 at w₁ w₂ (inl (omega arith)) (omega (arith, within, k₁ .long)) k₂ ∙ kept-part at (length f) 0 at w w₁ (inl (omega arith)) (omega (arith, within)) k₁) (rw zero-add (kept-part (c + at) (length f) at (length f) w₁ w₂ (inl (omega (arith, room))) (omega (arith, room, within, k₁ .long)) k₂ ∙ n₁)) (O .nexts);
+        froms = written-next maxVertices l i at s e cur t W from-of c w w₂ (kept-part (c + at) (length f) c at w₁ w₂ (inl (omega arith)) (omega (arith, room, within, k₁ .long)) k₂ ∙ kept-part at (length f) c at w w₁ (inr (omega (arith, room))) (omega (arith, room, within)) k₁) (n₂ ∙ sym (from-face at (vertices f))) (O .froms);
         kept = kept-trans 0 (2 * c) w₀ w w₂ (O .kept) (kept-trans 0 (2 * c) w w₁ w₂ (kept-wider at (length f) 0 (2 * c) w w₁ (omega arith) (omega (arith, room)) k₁) (kept-wider (c + at) (length f) 0 (2 * c) w₁ w₂ (omega arith) (omega (arith, room)) k₂));
       }
     where
       room : at + length f ≤ c
       room = omega (arith, t .long, u, walking-room maxVertices l i at s e cur t (O .walking))
 
-      within : (2 * c ≤ length w) × (2 * c ≤ length w₁) × (at ≤ c)
-      within = (omega (arith, O .kept .long), omega (arith, O .kept .long, k₁ .long), omega (arith, room))
+      within : (2 * c ≤ length w) × (at ≤ c)
+      within = (omega (arith, O .kept .long), omega (arith, room))

@@ -3,3 +3,4 @@ pub mod Uses
 pub mod Table
 pub mod Sort
 pub mod Runs
+pub mod Words

@@ -3,13 +3,13 @@
 use list::IndexList;
 ghost use mathlib.Core.Path.{_≡_};
 ghost use mathlib.Core.List.{map};
-ghost use Prim.Native.Nat.{ℕ, _+_, _≤_, _<_};
+ghost use Prim.Native.Nat.{ℕ, _+_, _*_, _≤_, _<_};
 ghost use lib.ListN.{length, getD};
 ghost use Rattle.list.specs.Limits.{maxEntries, maxVertices};
 ghost use Rattle.list.specs.Faces.{vertices};
 ghost use Rattle.edges.specs.Uses.{usesOfFace, usesOn, nextIn, isEdge};
-ghost use Rattle.edges.specs.Table.{nextWords};
 ghost use Rattle.edges.specs.Sort.{pairKey, keyOf, part, Kept};
+ghost use Rattle.edges.specs.Words.{CornersWritten};
 
 // The place that follows place i in a face of m corners: after the last the first.
 fn next_in(m: usize, i: usize) -> usize
@@ -40,37 +40,27 @@ pub fn write_keys(face: &[i32], work: &mut [u32], at: usize)
     ensures kept { λ _. ⌜ Kept at (length (now (face .entry))) (now (work .entry)) (now (work .exit)) ⌝ }
 {
     let m = face.len();
+    let mut from = list::vertex_at(face, 0);
     let mut i = 0;
     while i < m {
-        let from = list::vertex_at(face, i);
         let to = list::vertex_at(face, next_in(m, i));
         work[at + i] = key(from, to);
+        from = to;
         i += 1;
     }
 }
 
-// The next corners of the face's corners.
-pub fn write_nexts(face: &[i32], work: &mut [u32], at: usize)
-    requires { ⌜ (at + length (now face) ≤ length (now work)) × (at + length (now face) ≤ maxEntries) ⌝ }
-    ensures written { λ _. ⌜ part at (length (now (face .entry))) (now (work .exit)) ≡ nextWords (usesOfFace at (vertices (now (face .entry)))) ⌝ }
-    ensures kept { λ _. ⌜ Kept at (length (now (face .entry))) (now (work .entry)) (now (work .exit)) ⌝ }
+// The next corners of the face's corners and their vertices, in two blocks of c words.
+pub fn write_corners(face: &[i32], work: &mut [u32], c: usize, at: usize)
+    requires { ⌜ (at + length (now face) ≤ c) × (c ≤ maxEntries) × (2 * c ≤ length (now work)) ⌝ }
+    requires { ⌜ ((i : ℕ) → i < length (now face) → getD (vertices (now face)) i 0 < maxVertices) ⌝ }
+    ensures { λ _. ⌜ CornersWritten c at (now (face .entry)) (now (work .entry)) (now (work .exit)) ⌝ }
 {
     let m = face.len();
+    let to = c + at;
     let mut i = 0;
     while i < m {
         work[at + i] = (at + next_in(m, i)) as u32;
-        i += 1;
-    }
-}
-
-// The vertices of the face's corners, in the words from `to` on.
-pub fn write_vertices(face: &[i32], work: &mut [u32], to: usize)
-    requires { ⌜ (to + length (now face) ≤ length (now work)) × ((i : ℕ) → i < length (now face) → getD (vertices (now face)) i 0 < maxVertices) ⌝ }
-    ensures written { λ _. ⌜ part to (length (now (face .entry))) (now (work .exit)) ≡ vertices (now (face .entry)) ⌝ }
-    ensures kept { λ _. ⌜ Kept to (length (now (face .entry))) (now (work .entry)) (now (work .exit)) ⌝ }
-{
-    let mut i = 0;
-    while i < face.len() {
         work[to + i] = list::vertex_at(face, i) as u32;
         i += 1;
     }

@@ -64,64 +64,48 @@ returns c =
 stepped : (c : tie.After-start Inv-loop μ-loop) → Stepped (now (c .before .before .before .before .before .before .args .list)) (c .before .before .before .loop .cursor .at) (c .start .given .0 .0) (c .start .given .0 .1 .0) (c .start .given .0 .1 .1 .0)
 stepped c = step-stepped _ _ _ _ _ (sym (c .before .before .next .ensures) ∙ c .start .given .1)
 
-mul-face : tie.Need-mul-face Inv-loop μ-loop
-mul-face c = let t = stepped (c .before) in omega (arith, t .order, t .within)
+mul-write-corners : tie.Need-mul-write-corners Inv-loop μ-loop
+mul-write-corners c = let t = stepped (c .before) in omega (arith, t .order, t .within)
 
-sub-face : tie.Need-sub-face Inv-loop μ-loop
-sub-face c = stepped (c .before) .order
+sub-write-corners : tie.Need-sub-write-corners Inv-loop μ-loop
+sub-write-corners c = stepped (c .before) .order
 
-part-face-start : tie.Need-part-face-start Inv-loop μ-loop
-part-face-start c = stepped (c .before) .order
+part-write-corners-start : tie.Need-part-write-corners-start Inv-loop μ-loop
+part-write-corners-start c = stepped (c .before) .order
 
-part-face-end : tie.Need-part-face-end Inv-loop μ-loop
-part-face-end c = stepped (c .before) .within
+part-write-corners-end : tie.Need-part-write-corners-end Inv-loop μ-loop
+part-write-corners-end c = stepped (c .before) .within
 
-write-nexts-requires : tie.Need-write-nexts-requires Inv-loop μ-loop
-write-nexts-requires c κs =
+write-corners-requires : tie.Need-write-corners-requires Inv-loop μ-loop
+write-corners-requires c κs =
     let s = c .before .before .before in
-    let a = s .before .before .before in
-    let p = a .before .before .before in
-    let room = walking-room _ _ _ _ _ _ _ (stepped s) (a .loop .inv .walking) in
-    (omega (arith, stepped s .long, room, a .loop .inv .kept .long, p .pre .1, p .pre .2), omega (arith, stepped s .long, room, few-corners _ _ (p .pre .0)))
-
-add-write-vertices : tie.Need-add-write-vertices Inv-loop μ-loop
-add-write-vertices c =
-    let s = c .before .before .before .before .before .before .before in
-    let a = s .before .before .before in
-    let p = a .before .before .before in
-    omega (arith, walking-room _ _ _ _ _ _ _ (stepped s) (a .loop .inv .walking), few-corners _ _ (p .pre .0), p .pre .1)
-
-write-vertices-requires : tie.Need-write-vertices-requires Inv-loop μ-loop
-write-vertices-requires c κs =
-    let s = c .before .before .before .before .before .before .before in
     let a = s .before .before .before in
     let p = a .before .before .before in
     let t = stepped s in
     let f = take (s .start .given .0 .1 .0 - s .start .given .0 .0) (drop (s .start .given .0 .0) (now (p .args .list))) in (
-      omega (arith, t .long, walking-room _ _ _ _ _ _ _ t (a .loop .inv .walking), a .loop .inv .kept .long, c .before .before .before .write-nexts .ensures .1 .long, p .pre .1, p .pre .2),
+      (omega (arith, t .long, walking-room _ _ _ _ _ _ _ t (a .loop .inv .walking), p .pre .1), omega (arith, few-corners _ _ (p .pre .0), p .pre .1), omega (arith, a .loop .inv .kept .long, p .pre .2)),
       λ i h. vertex-in maxVertices f (walking-valid _ _ _ _ _ _ _ t (a .loop .inv .walking)) i (rw (vertices-long f) h),
     )
 
 sub-at : tie.Need-sub-at Inv-loop μ-loop
-sub-at c = stepped (c .before .before .before .before .before .before .before .before .before .before) .order
+sub-at c = stepped (c .before .before .before .before .before .before) .order
 
 add-at : tie.Need-add-at Inv-loop μ-loop
 add-at c =
-    let s = c .before .before .before .before .before .before .before .before .before .before in
+    let s = c .before .before .before .before .before .before in
     let a = s .before .before .before in
     omega (arith, walking-room _ _ _ _ _ _ _ (stepped s) (a .loop .inv .walking), few-corners _ _ (a .before .before .before .pre .0))
 
 loop-less : tie.Need-loop-less Inv-loop μ-loop
-loop-less c = let t = stepped (c .before .before .before .before .before .before .before .before .before .before) in omega (arith, t .here, t .start, t .order, t .next)
+loop-less c = let t = stepped (c .before .before .before .before .before .before) in omega (arith, t .here, t .start, t .order, t .next)
 
 loop-again : tie.Need-loop-again Inv-loop μ-loop
 loop-again c =
     let v = c .before .before in
-    let n = v .before .before .before .before in
-    let s = n .before .before .before .before in
+    let s = v .before .before .before .before in
     let a = s .before .before .before in
     let p = a .before .before .before in
-    wording-turn _ _ _ _ _ _ _ (stepped s) (now (p .args .work)) (a .loop .work) (n .write-nexts .last .1 .0) (v .write-vertices .last .1 .0) (a .loop .inv) (p .pre .1) (p .pre .2) (n .write-nexts .ensures .0) (n .write-nexts .ensures .1) (v .write-vertices .ensures .0) (v .write-vertices .ensures .1)
+    wording-turn _ _ _ _ _ _ _ (stepped s) (now (p .args .work)) (a .loop .work) (v .write-corners .last .1 .0) (a .loop .inv) (p .pre .1) (p .pre .2) (v .write-corners .ensures)
 
 pub write-words-spec : {M : Type 1} → statement M
 write-words-spec =
@@ -136,13 +120,11 @@ write-words-spec =
     enum-told
     same-length
     returns
-    mul-face
-    sub-face
-    part-face-start
-    part-face-end
-    write-nexts-requires
-    add-write-vertices
-    write-vertices-requires
+    mul-write-corners
+    sub-write-corners
+    part-write-corners-start
+    part-write-corners-end
+    write-corners-requires
     sub-at
     add-at
     loop-less
