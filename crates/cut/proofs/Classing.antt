@@ -180,7 +180,7 @@ module _ (l : List ℤ) (w : List ℕ) (front : take (3 * length (uses l)) w ≡
       (choose-none (isRootOn w c v) (countFrom 0 c)
       (all-countFrom (λ (i : ℕ). isRootOn w c v i ≡ false) c 0 (λ i a b. rw (vertex-word i (omega arith), f i (omega arith)) (and-false (leb i (at w (3 * c + i)))))))
 
-  pub class-found : (v : ℕ) → finalMark w c v (fanMark (rootsOn w c v 0 c)) ≡ classOf l v
+  class-found : (v : ℕ) → finalMark w c v (fanMark (rootsOn w c v 0 c)) ≡ classOf l v
   unfolding classOf
   class-found v = go (hasFace (uses l) v) refl
     where
@@ -209,3 +209,7 @@ module _ (l : List ℤ) (w : List ℕ) (front : take (3 * length (uses l)) w ≡
 pub grouped-classes : (l : List ℤ) (c : ℕ) (w : List ℕ) → Grouped l c w → (n : ℕ) (xs : List ℕ) → length xs ≡ n → ((v : ℕ) → v < n → at xs v ≡ finalMark w c v (fanMark (rootsOn w c v 0 c))) → xs ≡ classesOf l n
 grouped-classes l c w G n xs h f =
     classes-found l w (rw (G .count) at (G .front)) (rw (G .count) at (G .forest)) (rw (G .count) at (G .size)) n xs h (rw (G .count) at f)
+
+pub grouped-class : (l : List ℤ) (c : ℕ) (w : List ℕ) → Grouped l c w → (v : ℕ) → finalMark w c v (fanMark (rootsOn w c v 0 c)) ≡ classOf l v
+grouped-class l c w G v =
+    rw (G .count) (class-found l w (rw (G .count) at (G .front)) (rw (G .count) at (G .forest)) (rw (G .count) at (G .size)) v)

@@ -6,8 +6,9 @@ pub mod Roots
 pub mod Numbering
 pub mod TableLinks
 pub mod Marking
+pub mod SingularCount
 pub mod Classing
 pub mod Grouping
+pub mod Cutting
 pub mod Answers
 pub mod Walk
-pub mod MapLoop

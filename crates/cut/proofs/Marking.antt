@@ -2,17 +2,14 @@
 use Prim.Native.Nat.{ℕ, zero, suc, _+_, _-_, _*_, _≤_, _<_}
 use mathlib.Core.Path.{_≡_, refl, sym, _∙_, ap}
 use mathlib.Core.Bool.{Bool, true, false, cond, _&&_, _||_}
-use mathlib.Core.List.{List, _++_}
+use mathlib.Core.List.{List}
 use native.Mathlib.Numerals.{add-one}
 use native.Mathlib.Nat.{sub-zero}
 use native.Mathlib.Omega.{arith}
 use borrow.Author.Tests.{eqb-true, eqb-false, eq-eqb, ne-eqb, le-leb, lt-leb}
 use lib.Dec.{eqb}
-use lib.IntN.{ℤ}
-use lib.ListN.{length, set, take, drop, replicate, length-set, getD-replicate, drop-of-length-le}
-use lib.Seq.{drop-cons, getD-set-same, getD-set-other, length-take-le, take-at}
-use Rattle.edges.specs.Choose.{count}
-use Rattle.cut.specs.Classes.{isSingularClass, classesOf, singularVertices}
+use lib.ListN.{length, set, replicate, length-set, getD-replicate}
+use lib.Seq.{getD-set-same, getD-set-other}
 use Rattle.cut.specs.Forest.{at, VertexWords}
 use Rattle.cut.specs.Marks.{isRootOn, rootsOn, fanMark, touchesAt, marksEnd, boundaryWord, singularWord, raised, finished, finalMark}
 use Rattle.cut.proofs.Counting.{count-down}
@@ -139,7 +136,7 @@ both-raised k true false = refl
 both-raised k false true = refl
 both-raised k false false = refl
 
-both-set : (k x : ℕ) (s t : Bool) → cond t x (cond s x k) ≡ cond (s || t) x k
+pub both-set : (k x : ℕ) (s t : Bool) → cond t x (cond s x k) ≡ cond (s || t) x k
 both-set k x true true = refl
 both-set k x true false = refl
 both-set k x false true = refl
@@ -162,7 +159,7 @@ end-start w c xs = record { size = refl; left = λ v h. rw (sub-zero c) }
 pub end-done : (w : List ℕ) (c : ℕ) (xs₀ xs : List ℕ) (e : ℕ) → c ≤ e → EndLoop w c xs₀ xs e → (v : ℕ) → v < length xs₀ → at xs v ≡ finalMark w c v (at xs₀ v)
 end-done w c xs₀ xs e h L v i = let none : c - e ≡ 0 = omega arith in rw none at (L .left v i)
 
-ends-step : (kind : ℕ → ℕ → Bool) (w : List ℕ) (c v e : ℕ) → e < c → marksEnd kind w c v e (c - e) ≡ ((touchesAt w c v e && kind e (at w (2 * c + e))) || marksEnd kind w c v (e + 1) (c - (e + 1)))
+pub ends-step : (kind : ℕ → ℕ → Bool) (w : List ℕ) (c v e : ℕ) → e < c → marksEnd kind w c v e (c - e) ≡ ((touchesAt w c v e && kind e (at w (2 * c + e))) || marksEnd kind w c v (e + 1) (c - (e + 1)))
 ends-step kind w c v e h = rw (count-down c e h, add-one e)
 
 abbrev twiceRaised : List ℕ → ℕ → ℕ → List ℕ
@@ -207,38 +204,3 @@ module _ (w : List ℕ) (c : ℕ) (xs₀ : List ℕ) (W : VertexWords w c (lengt
             turned xs false false (ne-eqb (at w (2 * c + e)) c k) (ne-eqb (at w (2 * c + e)) e m) refl
             (λ v r t. end-regular (at xs v) (touchesAt w c v e) r t);
       }
-
--- the singular vertices counted before v and those left make up all
-pub record CountLoop (xs : List ℕ) (k v : ℕ) : Type 0 where
-  pub few : k ≤ v
-  pub left : k + count isSingularClass (drop v xs) ≡ count isSingularClass xs
-
-pub count-start : (xs : List ℕ) → CountLoop xs 0 0
-count-start xs = record { few = omega arith; left = omega arith }
-
-module _ (xs : List ℕ) (k v : ℕ) (h : v < length xs) (L : CountLoop xs k v) where
-  pub count-one : 3 ≤ at xs v → CountLoop xs (k + 1) (v + 1)
-  count-one q =
-      let l : k + suc (count isSingularClass (drop (suc v) xs)) ≡ count isSingularClass xs = rw (drop-cons xs v 0 h, le-leb 3 (at xs v) q) at (L .left) in
-      record { few = omega (arith, L .few); left = rw (add-one v) (omega arith) }
-
-  pub count-none : at xs v < 3 → CountLoop xs k (v + 1)
-  count-none q = record { few = omega (arith, L .few); left = rw (add-one v) (rw (drop-cons xs v 0 h, lt-leb 3 (at xs v) q) at (L .left)) }
-
-pub count-done : (xs : List ℕ) (k v : ℕ) → length xs ≤ v → CountLoop xs k v → k ≡ count isSingularClass xs
-count-done xs k v h L =
-    let l : k + 0 ≡ count isSingularClass xs = rw (drop-of-length-le xs {i = v} h) at (L .left) in
-    omega arith
-
--- the part that was lent and comes back
-module _ (n : ℕ) (old xs : List ℕ) (room : n ≤ length old) (same : length xs ≡ length (take n old)) where
-  pub part-long : length xs ≡ n
-  part-long = same ∙ length-take-le n old room
-
-  pub part-back : take n (xs ++ drop n old) ≡ xs
-  part-back = take-at xs (drop n old) n part-long
-
-  pub singular-counted : (l : List ℤ) (k : ℕ) → xs ≡ classesOf l (length (take n old)) → k ≡ count isSingularClass (take n (xs ++ drop n old)) → k ≡ singularVertices l n
-  unfolding singularVertices
-  singular-counted l k a b =
-      b ∙ ap (count isSingularClass) (part-back ∙ a ∙ ap (classesOf l) (length-take-le n old room))

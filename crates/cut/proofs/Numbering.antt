@@ -1,19 +1,27 @@
--- The loop that numbers the corners: before e every corner has the place of its label among the roots, and k roots are met.
-use Prim.Native.Nat.{ℕ, suc, _+_, _-_, _*_, _≤_, _<_}
+-- The loop that numbers the corners: before e every corner has the place of its label among the roots, k roots are met, and the
+-- map has their vertices.
+use Prim.Native.Nat.{ℕ, zero, suc, _+_, _-_, _*_, _≤_, _<_, _^_}
 use mathlib.Core.Path.{_≡_, refl, sym, _∙_, ap}
-use mathlib.Core.Bool.{true, false, _&&_}
-use mathlib.Core.List.{List, _++_, map}
+use mathlib.Core.Bool.{Bool, true, false, cond, _&&_}
+use mathlib.Core.List.{List, _∷_, _++_, map}
+use native.Mathlib.Numerals.{add-one}
+use native.Mathlib.Nat.{sub-zero}
 use native.Mathlib.Omega.{arith}
 use borrow.Author.Count.{below-more}
-use lib.IntN.{ℤ}
+use borrow.Author.Tests.{leb-true, leb-false, le-leb, lt-leb}
+use lib.IntN.{ℤ, pos}
 use lib.Dec.{eqb}
-use lib.ListN.{length, set, take, drop, length-set, length-map, take-append-drop}
+use lib.ListN.{length, getD, set, take, drop, length-set, length-map, take-append-drop}
 use lib.Seq.{getD-set-same, getD-set-other, getD-take, drop-set-lt, ext-getD, length-take-le, take-at}
+use Rattle.list.specs.Faces.{corners}
+use Rattle.edges.specs.Choose.{choose}
+use Rattle.cut.specs.Groups.{countFrom}
 use Rattle.cut.specs.Renumber.{placeIn, distinct, newNumbers, newVertices, refilled, newListOf, mapOf}
 use Rattle.cut.specs.Cut.{over}
-use Rattle.cut.specs.Forest.{at, Forest, Renumbered}
-use Rattle.cut.proofs.Counting.{map-at, word-after}
-use Rattle.cut.proofs.Roots.{rootsIn, anyCorner, forest-earliest, parent-earlier, parent-own, roots-split, root-place, distinct-all}
+use Rattle.cut.specs.Forest.{at, Forest, VertexWords, CornerWords, isRoot, rootVertices, Numbered, Renumbered}
+use Rattle.cut.proofs.Counting.{map-at, count-down, word-after}
+use Rattle.cut.proofs.Filled.{Filled, filled-start, filled-more, filled-end}
+use Rattle.cut.proofs.Roots.{rootsIn, anyCorner, forest-earliest, parent-earlier, parent-own, roots-split, root-place, place-of-root, distinct-all}
 
 -- the roots of c corners, and those from e on
 abbrev roots : List ℕ → ℕ → List ℕ
@@ -22,64 +30,85 @@ roots labels c = rootsIn anyCorner labels 0 c
 abbrev rootsAfter : List ℕ → ℕ → ℕ → List ℕ
 rootsAfter labels c e = rootsIn anyCorner labels e (c - e)
 
-pub record Numbered (labels : List ℕ) (c : ℕ) (w : List ℕ) (k e : ℕ) : Type 0 where
+pub record Placed (labels : List ℕ) (c : ℕ) (w : List ℕ) (k e : ℕ) : Type 0 where
   pub counted : k + length (rootsAfter labels c e) ≡ length (roots labels c)
   pub numbers : (j : ℕ) → j < e → at w j ≡ placeIn (at labels j) (roots labels c)
 
-pub record NumberLoop (w₀ : List ℕ) (c : ℕ) (w : List ℕ) (k e : ℕ) : Type 0 where
+-- the map's entries of the roots from e on
+abbrev entriesAfter : List ℕ → ℕ → ℕ → List ℤ
+entriesAfter w c e = map pos (rootVertices w c e (c - e))
+
+pub record NumberLoop (w₀ : List ℕ) (c : ℕ) (w : List ℕ) (old xs : List ℤ) (k e : ℕ) : Type 0 where
   pub few : k ≤ e
   pub long : length w ≡ length w₀
   pub rest : drop c w ≡ drop c w₀
   pub low : (j : ℕ) → j < e → at w j < c
-  pub numbered : (labels : List ℕ) → Forest w₀ (3 * c) labels → Numbered labels c w k e
+  pub size : length xs ≡ length old
+  pub filled : Filled old (map pos (rootVertices w₀ c 0 c)) (entriesAfter w₀ c e) k xs
+  pub placed : (labels : List ℕ) → Forest w₀ (3 * c) labels → Placed labels c w k e
 
-pub number-start : (w : List ℕ) (c : ℕ) → NumberLoop w c w 0 0
-number-start w c =
+pub number-start : (w : List ℕ) (c : ℕ) (old : List ℤ) → NumberLoop w c w old old 0 0
+number-start w c old =
     record {
       few = omega arith;
       long = refl;
       rest = refl;
       low = λ j h. absurd (omega arith);
-      numbered = λ labels F. record { counted = all labels; numbers = λ j h. absurd (omega arith) };
+      size = refl;
+      filled = rw (sub-zero c) (filled-start old (map pos (rootVertices w c 0 c)));
+      placed = λ labels F. record { counted = all labels; numbers = λ j h. absurd (omega arith) };
     }
   where
     all : (labels : List ℕ) → 0 + length (rootsAfter labels c 0) ≡ length (roots labels c)
-    all labels = let z : c - 0 ≡ c = omega arith in rw z (omega arith)
+    all labels = rw (sub-zero c) (omega arith)
+
+entries-split : (w : List ℕ) (c e : ℕ) → e < c → (t : Bool) → isRoot w c e ≡ t → entriesAfter w c e ≡ cond t (pos (at w (c + e)) ∷ entriesAfter w c (e + 1)) (entriesAfter w c (e + 1))
+entries-split w c e h true q = rw (count-down c e h, add-one e, q)
+entries-split w c e h false q = rw (count-down c e h, add-one e, q)
 
 -- the two turns of the loop at e
-pub record NumberTurn (w₀ : List ℕ) (c : ℕ) (w : List ℕ) (k e : ℕ) : Type 0 where
-  pub old : at w (3 * c + e) < e → NumberLoop w₀ c (set w e (at w (at w (3 * c + e)))) k (e + 1)
-  pub new : e ≤ at w (3 * c + e) → NumberLoop w₀ c (set w e k) (k + 1) (e + 1)
+pub record NumberTurn (w₀ : List ℕ) (c : ℕ) (w : List ℕ) (old xs : List ℤ) (k e : ℕ) : Type 0 where
+  pub child : at w (3 * c + e) < e → NumberLoop w₀ c (set w e (at w (at w (3 * c + e)))) old xs k (e + 1)
+  pub root : e ≤ at w (3 * c + e) → NumberLoop w₀ c (set w e k) old (set xs k (pos (at w (c + e)))) (k + 1) (e + 1)
 
-module _ (w₀ : List ℕ) (c : ℕ) (size : length w₀ ≡ 4 * c) (w : List ℕ) (k e : ℕ) (h : e < c) (N : NumberLoop w₀ c w k e) where
+module _ (w₀ : List ℕ) (c : ℕ) (W : VertexWords w₀ c (2 ^ 31)) (w : List ℕ) (old xs : List ℤ) (k e : ℕ) (h : e < c) (N : NumberLoop w₀ c w old xs k e) where
   parent : at w (3 * c + e) ≡ at w₀ (3 * c + e)
   parent = word-after w₀ w c (3 * c + e) (N .rest) (omega arith)
 
-  numbers-more : (labels : List ℕ) (x : ℕ) → Numbered labels c w k e → x ≡ placeIn (at labels e) (roots labels c) → (j : ℕ) → j < e + 1 → at (set w e x) j ≡ placeIn (at labels j) (roots labels c)
+  vertex : at w (c + e) ≡ at w₀ (c + e)
+  vertex = word-after w₀ w c (c + e) (N .rest) (omega arith)
+
+  -- the vertex is an entry
+  pub vertex-fits : at w (c + e) < 2 ^ 31
+  vertex-fits = omega (arith, vertex, W .inside e h)
+
+  numbers-more : (labels : List ℕ) (x : ℕ) → Placed labels c w k e → x ≡ placeIn (at labels e) (roots labels c) → (j : ℕ) → j < e + 1 → at (set w e x) j ≡ placeIn (at labels j) (roots labels c)
   numbers-more labels x M q =
       below-more (λ (j : ℕ). at (set w e x) j ≡ placeIn (at labels j) (roots labels c)) e
       (λ j l. getD-set-other w e j x 0 (omega arith) ∙ M .numbers j l)
-      (getD-set-same w e x 0 (omega (arith, N .long)) ∙ q)
+      (getD-set-same w e x 0 (omega (arith, N .long, W .table .long)) ∙ q)
 
   low-more : (x : ℕ) → x < c → (j : ℕ) → j < e + 1 → at (set w e x) j < c
   low-more x l =
       below-more (λ (j : ℕ). at (set w e x) j < c) e
       (λ j i. omega (arith, getD-set-other w e j x 0 (omega arith), N .low j i))
-      (omega (arith, getD-set-same w e x 0 (omega (arith, N .long))))
+      (omega (arith, getD-set-same w e x 0 (omega (arith, N .long, W .table .long))))
 
-  number-old : at w (3 * c + e) < e → NumberLoop w₀ c (set w e (at w (at w (3 * c + e)))) k (e + 1)
-  number-old l =
+  number-child : at w (3 * c + e) < e → NumberLoop w₀ c (set w e (at w (at w (3 * c + e)))) old xs k (e + 1)
+  number-child l =
       record {
         few = omega (arith, N .few);
         long = length-set w e (at w (at w (3 * c + e))) ∙ N .long;
         rest = drop-set-lt c w e (at w (at w (3 * c + e))) h ∙ N .rest;
         low = low-more (at w (at w (3 * c + e))) (N .low (at w (3 * c + e)) l);
-        numbered = λ labels F. old labels F (N .numbered labels F);
+        size = N .size;
+        filled = rw (entries-split w₀ c e h false (lt-leb e (at w₀ (3 * c + e)) (omega (arith, parent)))) at (N .filled);
+        placed = λ labels F. child labels F (N .placed labels F);
       }
     where
-      old : (labels : List ℕ) → Forest w₀ (3 * c) labels → Numbered labels c w k e → Numbered labels c (set w e (at w (at w (3 * c + e)))) k (e + 1)
-      old labels F M =
-          let i : e < length labels = omega (arith, F .long) in
+      child : (labels : List ℕ) → Forest w₀ (3 * c) labels → Placed labels c w k e → Placed labels c (set w e (at w (at w (3 * c + e)))) k (e + 1)
+      child labels F M =
+          let i : e < length labels = omega (arith, F .long, W .table .long) in
           let out = parent-earlier w₀ (3 * c) labels F e i (omega (arith, parent)) in
           record {
             counted = rw (roots-split anyCorner labels c e h false (rw out)) at (M .counted);
@@ -88,19 +117,24 @@ module _ (w₀ : List ℕ) (c : ℕ) (size : length w₀ ≡ 4 * c) (w : List �
                 (M .numbers (at w (3 * c + e)) l ∙ ap (λ (x : ℕ). placeIn x (roots labels c)) (rw parent (F .same e i)));
           }
 
-  number-new : e ≤ at w (3 * c + e) → NumberLoop w₀ c (set w e k) (k + 1) (e + 1)
-  number-new l =
+  number-root : c ≤ length old → e ≤ at w (3 * c + e) → NumberLoop w₀ c (set w e k) old (set xs k (pos (at w (c + e)))) (k + 1) (e + 1)
+  number-root room l =
       record {
         few = omega (arith, N .few);
         long = length-set w e k ∙ N .long;
         rest = drop-set-lt c w e k h ∙ N .rest;
         low = low-more k (omega (arith, N .few));
-        numbered = λ labels F. new labels F (N .numbered labels F);
+        size = length-set xs k (pos (at w (c + e))) ∙ N .size;
+        filled =
+            rw vertex
+            (filled-more old (map pos (rootVertices w₀ c 0 c)) (entriesAfter w₀ c (e + 1)) k xs (pos 0) (pos (at w₀ (c + e))) (omega (arith, N .few))
+            (rw (entries-split w₀ c e h true (le-leb e (at w₀ (3 * c + e)) (omega (arith, parent)))) at (N .filled)));
+        placed = λ labels F. root labels F (N .placed labels F);
       }
     where
-      new : (labels : List ℕ) → Forest w₀ (3 * c) labels → Numbered labels c w k e → Numbered labels c (set w e k) (k + 1) (e + 1)
-      new labels F M =
-          let i : e < length labels = omega (arith, F .long) in
+      root : (labels : List ℕ) → Forest w₀ (3 * c) labels → Placed labels c w k e → Placed labels c (set w e k) (k + 1) (e + 1)
+      root labels F M =
+          let i : e < length labels = omega (arith, F .long, W .table .long) in
           let own : at w₀ (3 * c + e) ≡ e = omega (arith, parent, F .down e i) in
           let is : (eqb (at labels e) e && true) ≡ true = rw (parent-own w₀ (3 * c) labels F e i (omega arith)) in
           let z : 0 + c - e ≡ c - e = omega arith in
@@ -111,42 +145,95 @@ module _ (w₀ : List ℕ) (c : ℕ) (size : length w₀ ≡ 4 * c) (w : List �
             numbers = numbers-more labels k M (rw (F .root e i own) (omega (arith, M .counted)));
           }
 
-  pub number-turn : NumberTurn w₀ c w k e
-  number-turn = record { old = number-old; new = number-new }
+  pub number-turn : c ≤ length old → NumberTurn w₀ c w old xs k e
+  number-turn room = record { child = number-child; root = number-root room }
 
-module _ (w₀ : List ℕ) (c : ℕ) (size : length w₀ ≡ 4 * c) (w : List ℕ) (k e : ℕ) (h : c ≤ e) (N : NumberLoop w₀ c w k e) (labels : List ℕ) (F : Forest w₀ (3 * c) labels) where
-  count : length labels ≡ c
-  count = omega (arith, F .long)
+module _ (w₀ : List ℕ) (c : ℕ) (size : length w₀ ≡ 4 * c) (w : List ℕ) (old xs : List ℤ) (k e : ℕ) (h : c ≤ e) (N : NumberLoop w₀ c w old xs k e) where
+  module _ (labels : List ℕ) (F : Forest w₀ (3 * c) labels) where
+    count : length labels ≡ c
+    count = omega (arith, F .long)
 
-  distinct-is : distinct labels ≡ roots labels c
-  distinct-is = distinct-all labels (forest-earliest w₀ (3 * c) labels F) ∙ rw count
+    distinct-is : distinct labels ≡ roots labels c
+    distinct-is = distinct-all labels (forest-earliest w₀ (3 * c) labels F) ∙ rw count
 
-  pub vertices-counted : k ≡ newVertices labels
-  vertices-counted =
+    vertices-counted : k ≡ newVertices labels
+    vertices-counted =
+        let none : c - e ≡ 0 = omega arith in
+        let all : k + 0 ≡ length (roots labels c) = rw none at (N .placed labels F .counted) in
+        rw distinct-is (omega arith)
+
+    first : take c w ≡ newNumbers labels
+    unfolding newNumbers
+    first =
+        let front : length (take c w) ≡ c = length-take-le c w (omega (arith, N .long)) in
+        let whole : length (map (λ (x : ℕ). placeIn x (distinct labels)) labels) ≡ c = length-map labels (λ (x : ℕ). placeIn x (distinct labels)) ∙ count in
+        ext-getD 0 (take c w) (map (λ (x : ℕ). placeIn x (distinct labels)) labels) (front ∙ sym whole)
+        (λ i l. getD-take c w i 0 (omega arith) ∙ N .placed labels F .numbers i (omega arith) ∙ rw (← distinct-is) (sym (map-at (λ (x : ℕ). placeIn x (distinct labels)) labels i (omega arith))))
+
+    numbers-written : w ≡ newNumbers labels ++ drop c w₀
+    numbers-written = sym (take-append-drop c w) ∙ rw (first, N .rest)
+
+  pub numbered : Numbered w₀ c w old xs k
+  numbered =
       let none : c - e ≡ 0 = omega arith in
-      let all : k + 0 ≡ length (roots labels c) = rw none at (N .numbered labels F .counted) in
-      rw distinct-is (omega arith)
+      record {
+        low = λ j i. N .low j (omega arith);
+        back = filled-end old (map pos (rootVertices w₀ c 0 c)) k xs (rw none at (N .filled)) .0;
+        numbers = numbers-written;
+        count = vertices-counted;
+      }
 
-  first : take c w ≡ newNumbers labels
-  unfolding newNumbers
-  first =
-      let front : length (take c w) ≡ c = length-take-le c w (omega (arith, N .long)) in
-      let whole : length (map (λ (x : ℕ). placeIn x (distinct labels)) labels) ≡ c = length-map labels (λ (x : ℕ). placeIn x (distinct labels)) ∙ count in
-      ext-getD 0 (take c w) (map (λ (x : ℕ). placeIn x (distinct labels)) labels) (front ∙ sym whole)
-      (λ i l. getD-take c w i 0 (omega arith) ∙ N .numbered labels F .numbers i (omega arith) ∙ rw (← distinct-is) (sym (map-at (λ (x : ℕ). placeIn x (distinct labels)) labels i (omega arith))))
+-- the entry of a new vertex
+abbrev entryOf : List ℤ → List ℕ → ℕ → ℤ
+entryOf l labels x = getD (corners l) (placeIn x labels) (pos 0)
 
-  pub numbers-written : w ≡ newNumbers labels ++ drop c w₀
-  numbers-written = sym (take-append-drop c w) ∙ rw (first, N .rest)
+map-chosen : (p q : ℕ → Bool) (f : ℕ → ℤ) (g : ℕ → ℕ) (n s : ℕ) → ((i : ℕ) → i < s + n → p i ≡ q i) → ((i : ℕ) → i < s + n → q i ≡ true → f i ≡ pos (g i)) → map f (choose p (countFrom s n)) ≡ map pos (map g (choose q (countFrom s n)))
+map-chosen p q f g zero s a b = refl
+map-chosen p q f g (suc n) s a b = go (q s) refl (map-chosen p q f g n (suc s) (λ i h. a i (omega arith)) (λ i h. b i (omega arith)))
+  where
+    go : (t : Bool) → q s ≡ t → map f (choose p (countFrom (suc s) n)) ≡ map pos (map g (choose q (countFrom (suc s) n))) → map f (choose p (countFrom s (suc n))) ≡ map pos (map g (choose q (countFrom s (suc n))))
+    go true d ih = rw (a s (omega arith), d, b s (omega arith) d) (ap (λ (r : List ℤ). pos (g s) ∷ r) ih)
+    go false d ih = rw (a s (omega arith), d) ih
 
--- the first block, read by itself, holds the numbers
-module _ (w₀ w : List ℕ) (c : ℕ) (size : length w₀ ≡ 4 * c) (labels : List ℕ) (F : Forest w₀ (3 * c) labels) (written : w ≡ newNumbers labels ++ drop c w₀) where
-  pub numbers-first : take c w ≡ newNumbers labels
-  unfolding newNumbers
-  numbers-first = rw written (take-at (newNumbers labels) (drop c w₀) c (length-map labels (λ (x : ℕ). placeIn x (distinct labels)) ∙ omega (arith, F .long)))
+-- what is made of the vertices and groups in w₀
+module _ (l : List ℤ) (w₀ : List ℕ) (c : ℕ) (C : CornerWords l c w₀) (labels : List ℕ) (F : Forest w₀ (3 * c) labels) where
+  labels-long : length labels ≡ c
+  labels-long = omega (arith, F .long, C .words .table .long)
 
-  pub renumbered : (l xs map map′ : List ℤ) (r : ℕ) → xs ≡ refilled l (take c w) → map′ ≡ over (mapOf l labels) map → r ≡ newVertices labels → Renumbered l labels r xs map map′
-  unfolding newListOf
-  renumbered l xs map map′ r a b d = record { list = a ∙ ap (refilled l) numbers-first; back = b; count = d }
+  root-is : (i : ℕ) → i < c → (eqb (at labels i) i && true) ≡ isRoot w₀ c i
+  root-is i h = go (isRoot w₀ c i) refl
+    where
+      go : (t : Bool) → isRoot w₀ c i ≡ t → (eqb (at labels i) i && true) ≡ t
+      go true q = rw (parent-own w₀ (3 * c) labels F i (omega (arith, labels-long)) (leb-true i (at w₀ (3 * c + i)) q))
+      go false q = rw (parent-earlier w₀ (3 * c) labels F i (omega (arith, labels-long)) (leb-false i (at w₀ (3 * c + i)) q))
+
+  root-entry : (i : ℕ) → i < c → isRoot w₀ c i ≡ true → entryOf l labels i ≡ pos (at w₀ (c + i))
+  root-entry i h q =
+      let s : i < length labels = omega (arith, labels-long) in
+      let own : at labels i ≡ i = F .root i s (omega (arith, F .down i s, leb-true i (at w₀ (3 * c + i)) q)) in
+      rw (place-of-root labels (forest-earliest w₀ (3 * c) labels F) i s own) (C .entries i h)
+
+  -- the map's entries are the vertices of the roots
+  pub map-of-roots : mapOf l labels ≡ map pos (rootVertices w₀ c 0 c)
+  unfolding mapOf
+  map-of-roots =
+      rw (distinct-all labels (forest-earliest w₀ (3 * c) labels F), labels-long)
+      (map-chosen (λ (i : ℕ). eqb (at labels i) i && true) (isRoot w₀ c) (entryOf l labels) (λ (i : ℕ). at w₀ (c + i)) c 0 (λ i h. root-is i (omega arith)) (λ i h. root-entry i (omega arith)))
+
+  module _ (w : List ℕ) (old new : List ℤ) (r : ℕ) (N : Numbered w₀ c w old new r) where
+    -- the first block, read by itself, holds the numbers
+    numbers-first : take c w ≡ newNumbers labels
+    unfolding newNumbers
+    numbers-first = rw (N .numbers labels F) (take-at (newNumbers labels) (drop c w₀) c (length-map labels (λ (x : ℕ). placeIn x (distinct labels)) ∙ labels-long))
+
+    pub renumbered : (xs : List ℤ) → xs ≡ refilled l (take c w) → Renumbered l labels r xs old new
+    unfolding newListOf
+    renumbered xs a =
+        record {
+          list = a ∙ ap (refilled l) numbers-first;
+          back = N .back ∙ ap (λ (es : List ℤ). over es old) (sym map-of-roots);
+          count = N .count labels F;
+        }
 
 -- what is read of the first block
 pub number-low : (w : List ℕ) (c : ℕ) → c ≤ length w → ((j : ℕ) → j < c → at w j < c) → (j : ℕ) → j < length (take c w) → at (take c w) j < c

@@ -1,4 +1,4 @@
--- The walk over a list's entries that counts the corners met, and the new list and the map that are written on the way.
+-- The walk over a list's entries that counts the corners met, and the new list that is written on the way.
 use Prim.Native.Nat.{ℕ, suc, _+_, _≤_, _<_}
 use mathlib.Core.Path.{_≡_, refl, _∙_, ap}
 use mathlib.Core.Bool.{true, false}
@@ -21,11 +21,11 @@ pub record Walk (l : List ℤ) (e i : ℕ) : Type 0 where
   pub left : corners (drop i l) ≡ drop e (corners l)
   pub met : e ≤ length (corners l)
 
-pub walk-start : (l : List ℤ) → Walk l 0 0
+walk-start : (l : List ℤ) → Walk l 0 0
 walk-start l = record { left = refl; met = omega arith }
 
 module _ (l : List ℤ) (e i : ℕ) (h : i < length l) (W : Walk l e i) where
-  pub walk-end : isEnd (getD l i (pos 0)) ≡ true → Walk l e (i + 1)
+  walk-end : isEnd (getD l i (pos 0)) ≡ true → Walk l e (i + 1)
   walk-end q = record { left = rw add-one (rw (drop-cons l i (pos 0), q) at (W .left)); met = W .met }
 
   module _ (q : isEnd (getD l i (pos 0)) ≡ false) where
@@ -38,10 +38,7 @@ module _ (l : List ℤ) (e i : ℕ) (h : i < length l) (W : Walk l e i) where
     both : getD l i (pos 0) ∷ corners (drop (i + 1) l) ≡ getD (corners l) e (pos 0) ∷ drop (suc e) (corners l)
     both = at-corner ∙ drop-cons (corners l) e (pos 0) walk-inside
 
-    pub walk-entry : getD (corners l) e (pos 0) ≡ getD l i (pos 0)
-    walk-entry = cc both
-
-    pub walk-corner : Walk l (e + 1) (i + 1)
+    walk-corner : Walk l (e + 1) (i + 1)
     walk-corner = let rest : corners (drop (i + 1) l) ≡ drop (suc e) (corners l) = cc both in record { left = rest ∙ rw add-one; met = omega (arith, walk-inside) }
 
 -- the new list written up to position i

@@ -10,23 +10,30 @@
 --   Regrouped w w′ p g from p on w has become w′, and where it held groups with some labels, it holds those with g of them
 --   TableWords w c     four blocks, and each next corner is a corner
 --   VertexWords w c n  the same, with few corners, and all vertices below n
+--   CornerWords l c w  the vertices in w are the corners of the list l, and few
+--   isRoot w c i       corner i has no earlier parent
+--   rootVertices w c e n          the vertices of those of the n corners from e on that have none
+--   Numbered           the numbers that are written over the first block, the map after and before, and how many roots there are
 --   Grouped l c w      w holds the edge table of the list l and the parents of its fans
 --   Renumbered         the new list, the map after and before, and the number of new vertices, for these labels
+--   GroupsCut          what is made of the groups of a list with n vertices: the new list and the map, and the two counts of vertices
 --   CutMade            what is made of a valid list: the three counts, the new list, the map and the cleared work
 --   linksAcross        the links across an edge whose two uses start at two corners, from the words of the edge table
 --   linksAtCorner      the links at a corner, the earlier of the two
 --   tableLinks w c     the links of the edge table in w
 use Prim.Native.Nat.{ℕ, zero, suc, _+_, _*_, _≤_, _<_, _^_}
 use mathlib.Core.Path.{_≡_}
-use mathlib.Core.List.{List, [], _∷_, _++_}
-use mathlib.Core.Bool.{cond, _&&_}
-use lib.Dec.{ltb, eqb}
-use lib.IntN.{ℤ}
-use lib.ListN.{length, getD, take, replicate}
+use mathlib.Core.List.{List, [], _∷_, _++_, map}
+use mathlib.Core.Bool.{Bool, cond, _&&_}
+use lib.Dec.{leb, ltb, eqb}
+use lib.IntN.{ℤ, pos}
+use lib.ListN.{length, getD, take, drop, replicate}
+use Rattle.list.specs.Faces.{corners}
+use Rattle.edges.specs.Choose.{choose}
 use Rattle.edges.specs.Uses.{uses, singularEdges}
 use Rattle.edges.specs.Table.{tableOf}
-use Rattle.cut.specs.Groups.{Link, fanLabels, groupLabels}
-use Rattle.cut.specs.Renumber.{newListOf, newVertices, mapOf}
+use Rattle.cut.specs.Groups.{Link, countFrom, fanLabels, groupLabels}
+use Rattle.cut.specs.Renumber.{newNumbers, newListOf, newVertices, mapOf}
 use Rattle.cut.specs.Classes.{singularVertices}
 use Rattle.cut.specs.Cut.{over}
 
@@ -63,6 +70,23 @@ pub record VertexWords (w : List ℕ) (c n : ℕ) : Type 0 where
   pub few : c < 2 ^ 30
   pub inside : (e : ℕ) → e < c → at w (c + e) < n
 
+pub record CornerWords (l : List ℤ) (c : ℕ) (w : List ℕ) : Type 0 where
+  pub count : length (corners l) ≡ c
+  pub words : VertexWords w c (2 ^ 31)
+  pub entries : (e : ℕ) → e < c → getD (corners l) e (pos 0) ≡ pos (at w (c + e))
+
+abbrev pub isRoot : List ℕ → ℕ → ℕ → Bool
+isRoot w c i = leb i (at w (3 * c + i))
+
+abbrev pub rootVertices : List ℕ → ℕ → ℕ → ℕ → List ℕ
+rootVertices w c e n = map (λ (i : ℕ). at w (c + i)) (choose (isRoot w c) (countFrom e n))
+
+pub record Numbered (w : List ℕ) (c : ℕ) (w′ : List ℕ) (old new : List ℤ) (roots : ℕ) : Type 0 where
+  pub low : (j : ℕ) → j < c → at w′ j < c
+  pub back : new ≡ over (map pos (rootVertices w c 0 c)) old
+  pub numbers : (labels : List ℕ) → Forest w (3 * c) labels → w′ ≡ newNumbers labels ++ drop c w
+  pub count : (labels : List ℕ) → Forest w (3 * c) labels → roots ≡ newVertices labels
+
 pub record Grouped (l : List ℤ) (c : ℕ) (w : List ℕ) : Type 0 where
   pub count : c ≡ length (uses l)
   pub size : length w ≡ 4 * c
@@ -73,6 +97,10 @@ pub record Renumbered (l : List ℤ) (labels : List ℕ) (vertices : ℕ) (newLi
   pub list : newList ≡ newListOf l labels
   pub back : map′ ≡ over (mapOf l labels) map
   pub count : vertices ≡ newVertices labels
+
+pub record GroupsCut (l : List ℤ) (n vertices points : ℕ) (newList map map′ : List ℤ) : Type 0 where
+  pub renumbered : Renumbered l (groupLabels l) vertices newList map map′
+  pub points-are : points ≡ singularVertices l n
 
 pub record CutMade (l : List ℤ) (n c : ℕ) (vertices edges points : ℕ) (newList map map′ : List ℤ) (work : List ℕ) : Type 0 where
   pub list : newList ≡ newListOf l (groupLabels l)

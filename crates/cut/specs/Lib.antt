@@ -4,3 +4,4 @@ pub mod Classes
 pub mod Cut
 pub mod Forest
 pub mod Marks
+pub mod Singular

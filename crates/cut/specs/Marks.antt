@@ -11,13 +11,13 @@
 use Prim.Native.Nat.{ℕ, zero, suc, _+_, _*_}
 use mathlib.Core.List.{List}
 use mathlib.Core.Bool.{Bool, false, cond, _&&_, _||_}
-use lib.Dec.{leb, eqb}
+use lib.Dec.{eqb}
 use Rattle.edges.specs.Choose.{count}
 use Rattle.cut.specs.Groups.{countFrom}
-use Rattle.cut.specs.Forest.{at}
+use Rattle.cut.specs.Forest.{at, isRoot}
 
 abbrev pub isRootOn : List ℕ → ℕ → ℕ → ℕ → Bool
-isRootOn w c v i = leb i (at w (3 * c + i)) && eqb v (at w (c + i))
+isRootOn w c v i = isRoot w c i && eqb v (at w (c + i))
 
 abbrev pub rootsOn : List ℕ → ℕ → ℕ → ℕ → ℕ → ℕ
 rootsOn w c v e n = count (isRootOn w c v) (countFrom e n)

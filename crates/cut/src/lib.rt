@@ -1,5 +1,6 @@
 // The global cut with its map, and the classes of the vertices. It stands on `edges` and cites its contracts only; the program
 // and the layers of later requests stand on it.
+use list::IndexList;
 ghost use mathlib.Core.Path.{_≡_};
 ghost use Prim.Native.Nat.{_*_, _≤_};
 ghost use lib.ListN.{length, replicate};
@@ -17,11 +18,12 @@ ghost use Rattle.cut.specs.Cut.{
   classesBytes,
   classesWork,
 };
-ghost use Rattle.cut.specs.Forest.{Grouped, CutMade};
+ghost use Rattle.cut.specs.Forest.{Grouped, GroupsCut, CutMade};
 
 mod groups;
 mod marks;
 mod renumber;
+mod singular;
 mod work;
 
 // The cut's answer.
@@ -47,6 +49,15 @@ struct Counts {
     singular_edges: usize,
     singular_vertices: usize,
 }
+
+// Those of them that count vertices.
+struct VertexCounts {
+    vertices: usize,
+    singular_vertices: usize,
+}
+
+// A list of at most this many vertices doesn't pay for the most marks that there may be.
+const FEW_VERTICES: usize = 2048;
 
 // The classes of the vertices 0 to n-1, a byte each at the start of `classes`, and code 0. Refuses what the check refuses, a
 // class buffer shorter than n by 8 and work shorter than four words a corner by 9; then nothing is written.
@@ -156,6 +167,49 @@ fn refusal(code: u32, place: usize) -> CutAnswer
     }
 }
 
+// The new vertices of the groups of a valid list, and the number of its singular vertices, with a mark for each vertex, all 0.
+fn cut_marked(
+    list: &[i32],
+    c: usize,
+    new_list: &mut [i32],
+    map: &mut [i32],
+    work: &mut [u32],
+    marks: &mut [u8],
+) -> VertexCounts
+    requires { ⌜ Valid (now list) (length (now marks)) × Grouped (now list) c (now work) × (length (now «new_list») ≡ length (now list)) × (c ≤ length (now map)) × (now marks ≡ replicate (length (now marks)) 0) ⌝ }
+    ensures { λ r. ⌜ GroupsCut (now (list .entry)) (length (now (marks .entry))) (r .vertices) (r .«singular_vertices») (now («new_list» .exit)) (now (map .entry)) (now (map .exit)) ⌝ }
+{
+    let ends = singular::mark_singular_ends(work, c, marks);
+    let vertices = renumber::renumber(list, work, c, new_list, map);
+    let fans = singular::count_fans(&map[..vertices], marks);
+    let singular_vertices = ends + fans;
+    VertexCounts {
+        vertices,
+        singular_vertices,
+    }
+}
+
+// The same with marks of its own.
+fn cut_groups(
+    list: &[i32],
+    n: usize,
+    c: usize,
+    new_list: &mut [i32],
+    map: &mut [i32],
+    work: &mut [u32],
+) -> VertexCounts
+    requires { ⌜ Valid (now list) n × Grouped (now list) c (now work) × (length (now «new_list») ≡ length (now list)) × (c ≤ length (now map)) ⌝ }
+    ensures { λ r. ⌜ GroupsCut (now (list .entry)) n (r .vertices) (r .«singular_vertices») (now («new_list» .exit)) (now (map .entry)) (now (map .exit)) ⌝ }
+{
+    if n <= FEW_VERTICES {
+        let mut marks = [0u8; FEW_VERTICES];
+        cut_marked(list, c, new_list, map, work, &mut marks[..n])
+    } else {
+        let mut marks = [0u8; IndexList::MAX_VERTICES];
+        cut_marked(list, c, new_list, map, work, &mut marks[..n])
+    }
+}
+
 // The cut of a valid list in buffers that are long enough; the work is cleared.
 fn cut_list(
     list: &[i32],
@@ -169,12 +223,11 @@ fn cut_list(
     ensures { λ r. ⌜ CutMade (now (list .entry)) n c (r .vertices) (r .«singular_edges») (r .«singular_vertices») (now («new_list» .exit)) (now (map .entry)) (now (map .exit)) (now (work .exit)) ⌝ }
 {
     let singular_edges = group_list(list, n, c, work);
-    let singular_vertices = marks::singular_vertices(work, c, n);
-    let vertices = renumber::renumber(list, work, c, new_list, map);
+    let counts = cut_groups(list, n, c, new_list, map, work);
     work::clear(work);
     Counts {
-        vertices,
+        vertices: counts.vertices,
         singular_edges,
-        singular_vertices,
+        singular_vertices: counts.singular_vertices,
     }
 }

@@ -1,13 +1,10 @@
 // The classes of the vertices from the edge table and the groups in the work buffer, marked in one byte for each vertex.
-use list::IndexList;
 ghost use mathlib.Core.Path.{_≡_};
 ghost use mathlib.Core.List.{List};
-ghost use Prim.Native.Nat.{ℕ, _<_, _≤_};
+ghost use Prim.Native.Nat.{ℕ, _<_};
 ghost use lib.IntN.{ℤ};
 ghost use lib.ListN.{length, set, replicate};
-ghost use Rattle.list.specs.Limits.{maxVertices};
-ghost use Rattle.edges.specs.Choose.{count};
-ghost use Rattle.cut.specs.Classes.{isSingularClass, classesOf, singularVertices};
+ghost use Rattle.cut.specs.Classes.{classesOf};
 ghost use Rattle.cut.specs.Marks.{rootsOn, fanMark, raised, finalMark};
 ghost use Rattle.cut.specs.Forest.{at, VertexWords, Grouped};
 
@@ -74,35 +71,4 @@ pub fn mark(w: &[u32], c: usize, marks: &mut [u8])
     clear_marks(marks);
     mark_fans(w, c, marks);
     mark_ends(w, c, marks);
-}
-
-// How many marks are those of a singular vertex.
-pub fn count_singular(marks: &[u8]) -> usize
-    ensures { λ r. ⌜ r ≡ count isSingularClass (now (marks .entry)) ⌝ }
-{
-    let mut k = 0;
-    for v in 0..marks.len() {
-        if 3 <= marks[v] {
-            k += 1;
-        }
-    }
-    k
-}
-
-// How many of n vertices are singular, with marks for at least n vertices.
-fn singular_among(w: &[u32], c: usize, n: usize, marks: &mut [u8]) -> usize
-    requires { ⌜ VertexWords (now w) c n × (n ≤ length (now marks)) ⌝ }
-    ensures { λ r. ⌜ ((l : List ℤ) → Grouped l c (now (w .entry)) → r ≡ singularVertices l n) ⌝ }
-{
-    mark(w, c, &mut marks[..n]);
-    count_singular(&marks[..n])
-}
-
-// The same with marks of its own.
-pub fn singular_vertices(w: &[u32], c: usize, n: usize) -> usize
-    requires { ⌜ VertexWords (now w) c n × (n ≤ maxVertices) ⌝ }
-    ensures { λ r. ⌜ ((l : List ℤ) → Grouped l c (now (w .entry)) → r ≡ singularVertices l n) ⌝ }
-{
-    let mut marks = [0u8; IndexList::MAX_VERTICES];
-    singular_among(w, c, n, &mut marks)
 }

@@ -1,37 +1,18 @@
 // The new list and the map from the groups in the work buffer. A corner with an earlier parent takes the number that stands
 // there already, any other is the earliest of its group.
 ghost use mathlib.Core.Path.{_≡_};
-ghost use mathlib.Core.List.{List, _++_};
+ghost use mathlib.Core.List.{List};
 ghost use Prim.Native.Nat.{ℕ, _*_, _<_, _≤_, _^_};
 ghost use lib.IntN.{pos};
-ghost use lib.ListN.{length, getD, set, drop};
+ghost use lib.ListN.{length, getD, set};
 ghost use Rattle.list.specs.Faces.{isEnd, corners};
-ghost use Rattle.cut.specs.Renumber.{newNumbers, newVertices, refilled, mapOf};
-ghost use Rattle.cut.specs.Cut.{over};
-ghost use Rattle.cut.specs.Forest.{Forest, Renumbered};
+ghost use Rattle.cut.specs.Renumber.{refilled};
+ghost use Rattle.cut.specs.Forest.{Forest, VertexWords, CornerWords, Numbered, Renumbered};
 
 fn wide(x: u32) -> usize
     ensures { λ r. ⌜ r ≡ x ⌝ }
 {
     x as usize
-}
-
-// Writes each corner's new vertex over the first block, and answers how many new vertices there are.
-fn number(w: &mut [u32], c: usize) -> usize
-    requires { ⌜ (length (now w) ≡ 4 * c) × (c < 2 ^ 30) ⌝ }
-    ensures { λ r. ⌜ ((j : ℕ) → j < c → getD (now (w .exit)) j 0 < c) × ((labels : List ℕ) → Forest (now (w .entry)) (3 * c) labels → (now (w .exit) ≡ newNumbers labels ++ drop c (now (w .entry))) × (r ≡ newVertices labels)) ⌝ }
-{
-    let mut k = 0;
-    for e in 0..c {
-        let q = wide(w[3 * c + e]);
-        if q < e {
-            w[e] = w[q];
-        } else {
-            w[e] = k as u32;
-            k += 1;
-        }
-    }
-    k
 }
 
 // Whether the entry at i is the -1 that ends a face.
@@ -48,6 +29,26 @@ fn put_entry(entries: &mut [i32], i: usize, k: u32)
     ensures { λ _. ⌜ now (entries .exit) ≡ set (now (entries .entry)) i (pos k) ⌝ }
 {
     entries[i] = k as i32;
+}
+
+// Writes each corner's new vertex over the first block and each new vertex's input vertex into the map, and answers how many new
+// vertices there are.
+fn number(w: &mut [u32], c: usize, map: &mut [i32]) -> usize
+    requires { ⌜ VertexWords (now w) c (2 ^ 31) × (c ≤ length (now map)) ⌝ }
+    ensures { λ r. ⌜ Numbered (now (w .entry)) c (now (w .exit)) (now (map .entry)) (now (map .exit)) r ⌝ }
+{
+    let mut k = 0;
+    for e in 0..c {
+        let q = wide(w[3 * c + e]);
+        if q < e {
+            w[e] = w[q];
+        } else {
+            put_entry(map, k, w[c + e]);
+            w[e] = k as u32;
+            k += 1;
+        }
+    }
+    k
 }
 
 // Copies the list's entry at i to the place k of other entries.
@@ -74,24 +75,6 @@ fn fill_list(list: &[i32], w: &[u32], new_list: &mut [i32])
     }
 }
 
-// Writes the map: for each corner without an earlier parent, in their order, the list's entry there.
-fn fill_map(list: &[i32], w: &[u32], c: usize, map: &mut [i32])
-    requires { ⌜ (length (now w) ≡ 4 * c) × (length (corners (now list)) ≡ c) × (c ≤ length (now map)) ⌝ }
-    ensures { λ _. ⌜ ((labels : List ℕ) → Forest (now (w .entry)) (3 * c) labels → now (map .exit) ≡ over (mapOf (now (list .entry)) labels) (now (map .entry))) ⌝ }
-{
-    let mut e = 0;
-    let mut k = 0;
-    for j in 0..list.len() {
-        if !end_at(list, j) {
-            if e <= w[3 * c + e] as usize {
-                copy_entry(list, j, map, k);
-                k += 1;
-            }
-            e += 1;
-        }
-    }
-}
-
 // The new list and the map of the groups in w, and how many new vertices there are. The first block of w is written over.
 pub fn renumber(
     list: &[i32],
@@ -100,11 +83,10 @@ pub fn renumber(
     new_list: &mut [i32],
     map: &mut [i32],
 ) -> usize
-    requires { ⌜ (length (now w) ≡ 4 * c) × (length (corners (now list)) ≡ c) × (c < 2 ^ 30) × (length (now «new_list») ≡ length (now list)) × (c ≤ length (now map)) ⌝ }
+    requires { ⌜ CornerWords (now list) c (now w) × (length (now «new_list») ≡ length (now list)) × (c ≤ length (now map)) ⌝ }
     ensures { λ r. ⌜ ((labels : List ℕ) → Forest (now (w .entry)) (3 * c) labels → Renumbered (now (list .entry)) labels r (now («new_list» .exit)) (now (map .entry)) (now (map .exit))) ⌝ }
 {
-    fill_map(list, w, c, map);
-    let vertices = number(w, c);
+    let vertices = number(w, c, map);
     fill_list(list, &w[..c], new_list);
     vertices
 }

@@ -16,14 +16,16 @@ use Rattle.list.specs.Check.{Valid}
 use Rattle.edges.specs.Choose.{choose, count, All, upFrom}
 use Rattle.edges.specs.Uses.{Use, uses, hi, onEdge, mateAmong, startsMany, startsSingular, singularEdges}
 use Rattle.edges.specs.Table.{nextWords, vertexWords, mateWord, mateWords, tableOf}
-use Rattle.edges.specs.Sort.{keyOf, part, Kept, digitIs, Sorted, Arranged, keyAt, KeysBelow, Ordered}
+use Rattle.edges.specs.Sort.{keyOf, part, Kept, digitIs, Sorted, Arranged, keyAt, lower, KeysBelow, Ordered}
 use Rattle.edges.specs.Runs.{sameKey, wordBy, startsBy, MateReady, RightAt}
-use Rattle.edges.proofs.Lists.{all-in, all-map, choose-same, choose-map, upFrom-in, from-table}
+use Rattle.edges.specs.Matching.{Grouped}
+use Rattle.edges.proofs.Lists.{all-in, all-map, all-both, choose-same, choose-map, upFrom-in, from-table}
 use Rattle.edges.proofs.Uses.{noUse, useAt, corner-at}
 use Rattle.edges.proofs.Faces.{on-edge, edge-on, use-proper}
 use Rattle.edges.proofs.Mates.{sharing, sharing-is, mate-is, word}
 use Rattle.edges.proofs.Table.{mates-long, word-at}
 use Rattle.edges.proofs.Parts.{length-part, getD-part, part-same, part-add, kept-part}
+use Rattle.edges.proofs.Chain.{Chain}
 
 -- keys tell edges apart
 key-edge : (u v : Use) → hi u < maxVertices → hi v < maxVertices → eqb (keyOf u) (keyOf v) ≡ onEdge (v .from) (v .to) u
@@ -80,28 +82,25 @@ keys-below l n c w v u k e h =
 
 -- keys that agree on the corners serve alike
 
-all-both : (P Q : ℕ → Type 0) (xs : List ℕ) → All P xs → All Q xs → All (λ (x : ℕ). P x × Q x) xs
-all-both P Q [] a b = tt
-all-both P Q (x ∷ xs) a b = ((a .0, b .0), all-both P Q xs (a .1) (b .1))
-
 module _ (c : ℕ) (f g : ℕ → ℕ) (h : (e : ℕ) → e < c → f e ≡ g e) where
-  sorted-same : (xs : List ℕ) → All (λ (e : ℕ). e < c) xs → Sorted f xs → Sorted g xs
-  sorted-same [] a s = tt
-  sorted-same (x ∷ xs) a s = (
-    all-map (λ (y : ℕ). (y < c) × (f x ≤ f y)) (λ (y : ℕ). g x ≤ g y) xs (λ y p. omega (arith, h x (a .0), h y (p .0), p .1)) (all-both (λ (y : ℕ). y < c) (λ (y : ℕ). f x ≤ f y) xs (a .1) (s .0)),
-    sorted-same xs (a .1) (s .1),
+  sorted-same : (d : ℕ → ℕ) (xs : List ℕ) → All (λ (e : ℕ). e < c) xs → Sorted (λ (e : ℕ). d (f e)) xs → Sorted (λ (e : ℕ). d (g e)) xs
+  sorted-same d [] a s = tt
+  sorted-same d (x ∷ xs) a s = (
+    all-map (λ (y : ℕ). (y < c) × (d (f x) ≤ d (f y))) (λ (y : ℕ). d (g x) ≤ d (g y)) xs (λ y p. rw (← h x (a .0), ← h y (p .0)) (p .1)) (all-both (λ (y : ℕ). y < c) (λ (y : ℕ). d (f x) ≤ d (f y)) xs (a .1) (s .0)),
+    sorted-same d xs (a .1) (s .1),
   )
 
   digits-same : (k : ℕ) (xs : List ℕ) → All (λ (e : ℕ). e < c) xs → choose (digitIs f k) xs ≡ choose (digitIs g k) xs
   digits-same k xs a = choose-same (digitIs f k) (digitIs g k) xs (all-map (λ (e : ℕ). e < c) (λ (e : ℕ). digitIs f k e ≡ digitIs g k e) xs (λ e q. rw (h e q)) a)
 
-  arranged-same : (xs : List ℕ) → Arranged c f f xs → Arranged c g g xs
-  arranged-same xs a =
+  -- the order goes by d of the keys
+  arranged-same : (d : ℕ → ℕ) (xs : List ℕ) → Arranged c f (λ (e : ℕ). d (f e)) xs → Arranged c g (λ (e : ℕ). d (g e)) xs
+  arranged-same d xs a =
       let row = all-in (λ (e : ℕ). e < c) (upFrom 0 c) (λ e i. omega (arith, upFrom-in 0 c e i)) in
       record {
         order = a .order;
         stable = λ k. sym (digits-same k xs (a .order .inside)) ∙ a .stable k ∙ digits-same k (upFrom 0 c) row;
-        sorted = sorted-same xs (a .order .inside) (a .sorted);
+        sorted = sorted-same d xs (a .order .inside) (a .sorted);
       }
 
 -- an order by keys is ready for the mates
@@ -110,8 +109,32 @@ ordered-ready c w w′ few long o =
     record {
       few = few;
       long = o .long ∙ long;
-      arranged = arranged-same c (keyAt w) (keyAt (part 0 c w′)) (λ e h. sym (getD-part 0 c w′ e h ∙ rw zero-add (o .keys e h))) (part c c w′) (o .arranged);
+      arranged = arranged-same c (keyAt w) (keyAt (part 0 c w′)) (λ e h. sym (getD-part 0 c w′ e h ∙ rw zero-add (o .keys e h))) (λ (k : ℕ). k) (part c c w′) (o .arranged);
     }
+
+-- an order by lower vertices is ready for the matching
+module _ (c n : ℕ) (w w′ : List ℕ) (few : c ≤ maxEntries) (b : n ≤ c) (v : KeysBelow c n w) (C : Chain c (keyAt w) (λ (e : ℕ). lower (keyAt w e)) c w′) where
+  key-is : (e : ℕ) → e < c → keyAt w e ≡ keyAt (part 0 c w′) e
+  key-is e h = sym (getD-part 0 c w′ e h ∙ rw zero-add (C .keys e h))
+
+  pub chain-grouped : Grouped c w′
+  chain-grouped =
+      record {
+        few = few;
+        long = C .long;
+        fits = λ e h. rw (← key-is e h) (omega (arith, v e h .1));
+        arranged = arranged-same c (keyAt w) (keyAt (part 0 c w′)) key-is lower (part c c w′) (C .arranged);
+      }
+
+-- the keys read alike from equal first blocks
+pub keys-below-same : (c n : ℕ) (w w′ : List ℕ) → part 0 c w′ ≡ part 0 c w → KeysBelow c n w → KeysBelow c n w′
+keys-below-same c n w w′ p v e h =
+    let q : keyAt w′ e ≡ keyAt w e = sym (getD-part 0 c w′ e h ∙ rw zero-add) ∙ ap (λ (xs : List ℕ). getD xs e 0) p ∙ getD-part 0 c w e h ∙ rw zero-add in
+    rw q (v e h)
+
+-- keys that are kept are the same first block
+pub keys-part : (c : ℕ) (w w′ : List ℕ) → length w ≡ 4 * c → length w′ ≡ length w → ((e : ℕ) → e < c → keyAt w′ e ≡ keyAt w e) → part 0 c w′ ≡ part 0 c w
+keys-part c w w′ l s k = part-same 0 0 c w′ w (omega arith) (omega arith) (λ e h. rw zero-add (k e h))
 
 four-parts : (c : ℕ) (w : List ℕ) → length w ≡ 4 * c → w ≡ part 0 c w ++ part c c w ++ part (2 * c) c w ++ part (3 * c) c w
 four-parts c w h =
@@ -123,36 +146,35 @@ four-parts c w h =
     let four : part 0 (4 * c) w ≡ part 0 (3 * c) w ++ part (3 * c) c w = rw e₄ (part-add 0 (3 * c) c w ∙ rw zero-add) in
     sym (take-all (4 * c) w (omega arith)) ∙ four ∙ rw (three, two)
 
--- the four blocks are the table: w₁ has the keys, w₂ the order too, w₃ the mates, w₄ the next corners and the vertices, w₅ the zeros
-module _ (l : List ℤ) (n c : ℕ) (v : Valid l n) (u : length (uses l) ≡ c) (w₁ w₂ w₃ w₄ w₅ : List ℕ)
-    (long : length w₁ ≡ 4 * c)
-    (keys : part 0 c w₁ ≡ map keyOf (uses l))
-    (ordered : Ordered c w₁ w₂)
-    (right : (e : ℕ) → e < c → RightAt c (part 0 c w₂) w₃ e)
-    (kept₃ : Kept (2 * c) c w₂ w₃)
-  where
-    keys₂ : part 0 c w₂ ≡ map keyOf (uses l)
-    keys₂ = part-same 0 0 c w₂ w₁ (omega (arith, ordered .long)) (omega arith) (λ e h. rw zero-add (ordered .keys e h)) ∙ keys
+-- the four blocks are the table: w₁ has the keys, w₂ the mates, w₃ the next corners and the vertices, w₄ the zeros
+module _ (l : List ℤ) (n c : ℕ) (v : Valid l n) (u : length (uses l) ≡ c) (w₁ w₂ w₃ w₄ : List ℕ) (keys : part 0 c w₁ ≡ map keyOf (uses l)) where
+  pub table-singular : (r : ℕ) → r ≡ count (startsBy (part 0 c w₁)) (upFrom 0 c) → r ≡ singularEdges l
+  table-singular r e = e ∙ rw (keys, ← u) (key-singular l n v)
 
-    pub table-singular : (r : ℕ) → r ≡ count (startsBy (part 0 c w₂)) (upFrom 0 c) → r ≡ singularEdges l
-    table-singular r e = e ∙ rw (keys₂, ← u) (key-singular l n v)
+  module _
+      (long : length w₂ ≡ 4 * c)
+      (right : (e : ℕ) → e < c → RightAt c (part 0 c w₁) w₂ e)
+      (nexts : part 0 c w₃ ≡ nextWords (uses l))
+      (vertices : part c c w₃ ≡ vertexWords (uses l))
+      (kept₃ : Kept 0 (2 * c) w₂ w₃)
+      (zeros : part (3 * c) c w₄ ≡ replicate c 0)
+      (kept₄ : Kept (3 * c) c w₃ w₄)
+    where
+      long₄ : length w₄ ≡ 4 * c
+      long₄ = kept₄ .long ∙ kept₃ .long ∙ long
 
-    module _ (nexts : part 0 c w₄ ≡ nextWords (uses l)) (vertices : part c c w₄ ≡ vertexWords (uses l)) (kept₄ : Kept 0 (2 * c) w₃ w₄) (zeros : part (3 * c) c w₅ ≡ replicate c 0) (kept₅ : Kept (3 * c) c w₄ w₅) where
-      long₅ : length w₅ ≡ 4 * c
-      long₅ = kept₅ .long ∙ kept₄ .long ∙ kept₃ .long ∙ ordered .long ∙ long
+      mate₄ : (e : ℕ) → e < c → getD w₄ (2 * c + e) 0 ≡ getD (mateWords (uses l)) e 0
+      mate₄ e h =
+          kept₄ .low (2 * c + e) (omega arith) ∙ kept₃ .high (2 * c + e) (omega arith) ∙ right e h ∙
+          rw keys (key-word-is l n v e (rw u h)) ∙ sym (word-at l e (rw u h))
 
-      mate₅ : (e : ℕ) → e < c → getD w₅ (2 * c + e) 0 ≡ getD (mateWords (uses l)) e 0
-      mate₅ e h =
-          kept₅ .low (2 * c + e) (omega arith) ∙ kept₄ .high (2 * c + e) (omega arith) ∙ right e h ∙
-          rw keys₂ (key-word-is l n v e (rw u h)) ∙ sym (word-at l e (rw u h))
-
-      mates : part (2 * c) c w₅ ≡ mateWords (uses l)
+      mates : part (2 * c) c w₄ ≡ mateWords (uses l)
       mates =
-          ext-getD 0 (part (2 * c) c w₅) (mateWords (uses l)) (length-part (2 * c) c w₅ (omega (arith, long₅)) ∙ sym (mates-long (uses l) ∙ u))
-          (λ e q. let h : e < c = rw (length-part (2 * c) c w₅ (omega (arith, long₅))) at q in getD-part (2 * c) c w₅ e h ∙ mate₅ e h)
+          ext-getD 0 (part (2 * c) c w₄) (mateWords (uses l)) (length-part (2 * c) c w₄ (omega (arith, long₄)) ∙ sym (mates-long (uses l) ∙ u))
+          (λ e q. let h : e < c = rw (length-part (2 * c) c w₄ (omega (arith, long₄))) at q in getD-part (2 * c) c w₄ e h ∙ mate₄ e h)
 
-      pub table-is : w₅ ≡ tableOf l
+      pub table-is : w₄ ≡ tableOf l
       unfolding tableOf
       table-is =
-          four-parts c w₅ long₅ ∙
-          rw (kept-part (3 * c) c 0 c w₄ w₅ (inl (omega arith)) (omega (arith, long₅, kept₅ .long)) kept₅ ∙ nexts, kept-part (3 * c) c c c w₄ w₅ (inl (omega arith)) (omega (arith, long₅, kept₅ .long)) kept₅ ∙ vertices, mates, zeros, u)
+          four-parts c w₄ long₄ ∙
+          rw (kept-part (3 * c) c 0 c w₃ w₄ (inl (omega arith)) (omega (arith, long₄, kept₄ .long)) kept₄ ∙ nexts, kept-part (3 * c) c c c w₃ w₄ (inl (omega arith)) (omega (arith, long₄, kept₄ .long)) kept₄ ∙ vertices, mates, zeros, u)

@@ -10,6 +10,7 @@ pub mod Counting
 pub mod Bucket
 pub mod Chain
 pub mod Pairs
+pub mod Meeting
 pub mod Filling
 pub mod Walk
 pub mod Assembly

@@ -34,6 +34,10 @@ module _ {A : Type 0} where
   all-map P Q [] f a = tt
   all-map P Q (x ∷ xs) f a = (f x (a .0), all-map P Q xs f (a .1))
 
+  pub all-both : (P Q : A → Type 0) (xs : List A) → All P xs → All Q xs → All (λ (x : A). P x × Q x) xs
+  all-both P Q [] a b = tt
+  all-both P Q (x ∷ xs) a b = ((a .0, b .0), all-both P Q xs (a .1) (b .1))
+
   pub all-in : (P : A → Type 0) (xs : List A) → ((x : A) → In x xs → P x) → All P xs
   all-in P [] f = tt
   all-in P (x ∷ xs) f = (f x (inl refl), all-in P xs (λ y h. f y (inr h)))

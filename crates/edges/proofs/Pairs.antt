@@ -101,7 +101,7 @@ module _ (c i p : ℕ) (w₀ w : List ℕ) (R : MateReady c w₀) (M : Marked c 
 
 -- the corners of a run are all the corners of its key, in their own order
 
-sorted-at : (f : ℕ → ℕ) (xs : List ℕ) → Sorted f xs → (p q : ℕ) → p < q → q < length xs → f (getD xs p 0) ≤ f (getD xs q 0)
+pub sorted-at : (f : ℕ → ℕ) (xs : List ℕ) → Sorted f xs → (p q : ℕ) → p < q → q < length xs → f (getD xs p 0) ≤ f (getD xs q 0)
 sorted-at f [] s p q h k = absurd (omega arith)
 sorted-at f (x ∷ xs) s zero zero h k = absurd (omega arith)
 sorted-at f (x ∷ xs) s zero (suc q) h k = all-at (λ (y : ℕ). f x ≤ f y) 0 xs (s .0) q (omega arith)

@@ -3,4 +3,5 @@ pub mod Uses
 pub mod Table
 pub mod Sort
 pub mod Runs
+pub mod Matching
 pub mod Words

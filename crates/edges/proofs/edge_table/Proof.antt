@@ -1,4 +1,4 @@
--- `edge_table` meets its contract: the keys order the corners, runs of equal keys give the mates, and the four blocks are the table.
+-- `edge_table` meets its contract: corners of one key share an edge, so the keys give the mates, and the four blocks are the table.
 use Prim.Native.Nat.{ℕ, _*_, _/_, _≤_}
 use mathlib.Core.Path.{_≡_, sym, _∙_, ap}
 use mathlib.Core.List.{map}
@@ -11,7 +11,7 @@ use Rattle.edges.specs.Uses.{uses}
 use Rattle.edges.specs.Sort.{keyOf, part}
 use Rattle.edges.proofs.Uses.{uses-long}
 use Rattle.edges.proofs.Walk.{valid-wider, few-corners}
-use Rattle.edges.proofs.Assembly.{keys-below, ordered-ready, table-singular, table-is}
+use Rattle.edges.proofs.Assembly.{keys-below, table-singular, table-is}
 use Rattle.edges.proofs.edge_table.Statement.{statement}
 use Rattle.edges.proofs.edge_table.Tie as tie
 
@@ -34,31 +34,24 @@ long k = omega (arith, k .write-keys .kept .1 .0, k .before .before .before .pre
 keys : (k : tie.After-write-keys) → part 0 (length (now (k .before .before .before .args .work)) / 4) (k .write-keys .last .1 .0) ≡ map keyOf (uses (now (k .before .before .before .args .list)))
 keys k = ap (λ (x : ℕ). part 0 x (k .write-keys .last .1 .0)) (sym (corner-count (k .before .before .before))) ∙ k .write-keys .ensures
 
-by-keys-requires : tie.Need-by-keys-requires
-by-keys-requires c κs =
+pair-edges-requires : tie.Need-pair-edges-requires
+pair-edges-requires c κs =
     let k = c .before .before .before in
     let s = k .before .before .before in
     (long k, few s, keys-below (now (s .args .list)) (s .args .n) _ (k .write-keys .last .1 .0) (s .pre .0) (corner-count s) (keys k))
 
-write-mates-requires : tie.Need-write-mates-requires
-write-mates-requires c κs =
-    let o = c .before .before .before in
-    let k = o .before .before .before .before in
-    ordered-ready _ (k .write-keys .last .1 .0) (o .by-keys .last .0) (few (k .before .before .before)) (long k) (o .by-keys .ensures)
-
 write-words-requires : tie.Need-write-words-requires
 write-words-requires c κs =
     let m = c .before .before .before in
-    let o = m .before .before .before .before in
-    let k = o .before .before .before .before in
+    let k = m .before .before .before .before in
     let s = k .before .before .before in
-    (valid-wider (now (s .args .list)) (s .args .n) (s .pre .0), corner-count s, omega (arith, m .write-mates .ensures .1 .0 .long, o .by-keys .ensures .long, long k))
+    (valid-wider (now (s .args .list)) (s .args .n) (s .pre .0), corner-count s, omega (arith, m .pair-edges .kept .0, long k))
 
-mul-clear : tie.Need-mul-clear
-mul-clear c = search needs
+mul-fill : tie.Need-mul-fill
+mul-fill c = search needs
 
-clear-requires : tie.Need-clear-requires
-clear-requires c κs = search needs
+fill-requires : tie.Need-fill-requires
+fill-requires c κs = search needs
 
 same-length : tie.Need-same-length
 same-length c = search needs
@@ -68,24 +61,18 @@ returns c =
     let z = c .before .before in
     let w = z .before .before .before .before in
     let m = w .before .before .before .before in
-    let o = m .before .before .before .before in
-    let k = o .before .before .before .before in
+    let k = m .before .before .before .before in
     let s = k .before .before .before in
     let l = now (s .args .list) in
-    let count = corner-count s in (
-      table-is l (s .args .n) _ (s .pre .0) count (k .write-keys .last .1 .0) (o .by-keys .last .0) (m .write-mates .last .0) (w .write-words .last .1 .0) (z .clear .last .0) (long k) (keys k) (o .by-keys .ensures) (m .write-mates .ensures .0) (m .write-mates .ensures .1 .0) (w .write-words .ensures .0) (w .write-words .ensures .1 .0) (w .write-words .ensures .1 .1) (z .clear .ensures .0) (z .clear .ensures .1),
-      table-singular l (s .args .n) _ (s .pre .0) count (k .write-keys .last .1 .0) (o .by-keys .last .0) (m .write-mates .last .0) (w .write-words .last .1 .0) (z .clear .last .0) (long k) (keys k) (o .by-keys .ensures) (m .write-mates .ensures .0) (m .write-mates .ensures .1 .0) _ (m .write-mates .ensures .1 .1),
+    let w₁ = k .write-keys .last .1 .0 in
+    let w₂ = m .pair-edges .last .0 in
+    let w₃ = w .write-words .last .1 .0 in
+    let w₄ = z .fill .last .0 in (
+      table-is l (s .args .n) _ (s .pre .0) (corner-count s) w₁ w₂ w₃ w₄ (keys k) (omega (arith, m .pair-edges .kept .0, long k)) (m .pair-edges .ensures .0) (w .write-words .ensures .0) (w .write-words .ensures .1 .0) (w .write-words .ensures .1 .1) (z .fill .ensures .0) (z .fill .ensures .1),
+      table-singular l (s .args .n) _ (s .pre .0) (corner-count s) w₁ w₂ w₃ w₄ (keys k) _ (m .pair-edges .ensures .1),
     )
 
 pub edge-table-spec : {M : Type 1} → statement M
 edge-table-spec =
     tie.close
-    (tie.spec
-    write-keys-requires
-    by-keys-requires
-    write-mates-requires
-    write-words-requires
-    mul-clear
-    clear-requires
-    same-length
-    returns)
+    (tie.spec write-keys-requires pair-edges-requires write-words-requires mul-fill fill-requires same-length returns)
