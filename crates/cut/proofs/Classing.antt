@@ -5,7 +5,7 @@ use mathlib.Core.Bool.{Bool, true, false, cond, _&&_, true≢false}
 use mathlib.Core.List.{List, [], _∷_, map}
 use native.Mathlib.Nat.{add-zero, add-suc, suc-add}
 use native.Mathlib.Omega.{arith}
-use borrow.Author.Tests.{eqb-true, eqb-false, eq-eqb, ne-eqb, leb-true, leb-false, le-leb, lt-ltb}
+use borrow.Author.Tests.{eqb-true, eqb-false, eq-eqb, ne-eqb, leb-true, le-leb, lt-ltb}
 use lib.Dec.{leb, ltb, eqb}
 use lib.IntN.{ℤ}
 use lib.ListN.{length, getD, take, drop, length-map, drop-of-length-le}
@@ -23,7 +23,7 @@ use Rattle.cut.specs.Classes.{touches, endsEdgeOf, endsEdge, hasFace, la
 use Rattle.cut.specs.Forest.{at, Forest, Grouped}
 use Rattle.cut.specs.Marks.{isRootOn, rootsOn, fanMark, touchesAt, marksEnd, boundaryWord, singularWord, finished, finalMark}
 use Rattle.cut.proofs.Counting.{word-kept, map-at, length-countFrom, at-countFrom}
-use Rattle.cut.proofs.Roots.{forest-earliest, parent-earlier, parent-own, rootsIn, pick, distinct-roots}
+use Rattle.cut.proofs.Roots.{forest-earliest, root-by-parent, rootsIn, pick, distinct-roots}
 use Rattle.cut.proofs.TableLinks.{fan-vertex}
 
 all-countFrom : (P : ℕ → Type 0) (n s : ℕ) → ((i : ℕ) → s ≤ i → i < s + n → P i) → All P (countFrom s n)
@@ -107,11 +107,7 @@ module _ (l : List ℤ) (w : List ℕ) (front : take (3 * length (uses l)) w ≡
   on v i = eqb v (useAt l i .from)
 
   root-is : (i : ℕ) → i < c → leb i (at w (3 * c + i)) ≡ eqb (at (fanLabels l) i) i
-  root-is i h = go (leb i (at w (3 * c + i))) refl
-    where
-      go : (t : Bool) → leb i (at w (3 * c + i)) ≡ t → t ≡ eqb (at (fanLabels l) i) i
-      go true q = sym (parent-own w (3 * c) (fanLabels l) F i (omega (arith, fans-long)) (leb-true i (at w (3 * c + i)) q))
-      go false q = sym (parent-earlier w (3 * c) (fanLabels l) F i (omega (arith, fans-long)) (leb-false i (at w (3 * c + i)) q))
+  root-is i h = root-by-parent w (3 * c) (fanLabels l) F i (omega (arith, fans-long))
 
   roots-are : (v : ℕ) → rootsOn w c v 0 c ≡ length (rootsIn (on v) (fanLabels l) 0 c)
   roots-are v =

@@ -1,5 +1,5 @@
--- The groups of a valid list made its new vertices: the map has the vertices of the roots, so that to go through it is to meet every
--- fan once, and the singular vertices are counted.
+-- The groups of a valid list made its new vertices: the map has the vertices of the roots, so that to go through it is to meet
+-- every fan once, and the singular vertices are counted.
 use Prim.Native.Nat.{ℕ, zero, suc, _+_, _-_, _*_, _≤_, _<_}
 use mathlib.Core.Path.{_≡_, refl, sym, _∙_, ap}
 use mathlib.Core.Bool.{Bool, true, false, cond}

@@ -4,6 +4,7 @@ use mathlib.Core.Path.{_≡_, refl, sym, _∙_}
 use mathlib.Core.Bool.{Bool, true, false, cond}
 use mathlib.Core.List.{List, [], _∷_, map}
 use native.Mathlib.Omega.{arith}
+use native.Mathlib.Decide.{decLe}
 use borrow.Author.Tests.{eqb-true, eqb-false, eq-eqb, ne-eqb}
 use lib.Dec.{eqb}
 use lib.ListN.{length, set, length-set, length-map}
@@ -95,21 +96,24 @@ module _ (w : List ℕ) (p : ℕ) (labels : List ℕ) (F : Forest w p labels) (x
       rw (merge-is b a (omega arith) (omega arith))
       (forest-under w p labels F b a h (omega (arith, A .rises .below)) (label-of-root w p labels F y b hy B) (label-of-root w p labels F x a hx A))
 
--- one of the two joins, as the code makes it
+-- the join as the code makes it
 module _ (w : List ℕ) (p x y a b : ℕ) (hx : p + x < length w) (hy : p + y < length w) (A : Climbs w p x a) (B : Climbs w p y b) where
-  pub regrouped-second : a ≤ b → Regrouped w (set w (p + b) a) p (λ labels. merge labels (link x y))
-  regrouped-second h =
+  pub regrouped : Regrouped w (set w (p + max a b) (min a b)) p (λ labels. merge labels (link x y))
+  regrouped =
       record {
-        front = take-set-le p w (p + b) a (omega arith);
-        groups = λ labels F. join-second w p labels F x y a b (omega (arith, F .long)) (omega (arith, F .long)) A B h;
+        front = take-set-le p w (p + max a b) (min a b) (omega arith);
+        groups = λ labels F. joined labels F (decLe a b);
       }
-
-  pub regrouped-first : b ≤ a → Regrouped w (set w (p + a) b) p (λ labels. merge labels (link x y))
-  regrouped-first h =
-      record {
-        front = take-set-le p w (p + a) b (omega arith);
-        groups = λ labels F. join-first w p labels F x y a b (omega (arith, F .long)) (omega (arith, F .long)) A B h;
-      }
+    where
+      joined : (labels : List ℕ) (F : Forest w p labels) → Dec (a ≤ b) → Forest (set w (p + max a b) (min a b)) p (merge labels (link x y))
+      joined labels F (yes h) =
+          let lo : min a b ≡ a = omega arith in
+          let hi : max a b ≡ b = omega arith in
+          rw (lo, hi) (join-second w p labels F x y a b (omega (arith, F .long)) (omega (arith, F .long)) A B h)
+      joined labels F (no h) =
+          let lo : min a b ≡ b = omega arith in
+          let hi : max a b ≡ a = omega arith in
+          rw (lo, hi) (join-first w p labels F x y a b (omega (arith, F .long)) (omega (arith, F .long)) A B (omega arith))
 
 -- a join after a join
 regrouped-then : (w w₁ w₂ : List ℕ) (p : ℕ) (k₁ k₂ : Link) → Regrouped w w₁ p (λ labels. merge labels k₁) → Regrouped w₁ w₂ p (λ labels. merge labels k₂) → Regrouped w w₂ p (λ labels. mergeAll labels (k₁ ∷ k₂ ∷ []))

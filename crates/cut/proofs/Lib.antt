@@ -9,6 +9,7 @@ pub mod Marking
 pub mod SingularCount
 pub mod Classing
 pub mod Grouping
+pub mod NoSingular
 pub mod Cutting
 pub mod Answers
 pub mod Walk

@@ -8,7 +8,7 @@ use native.Mathlib.Numerals.{add-one}
 use native.Mathlib.Nat.{sub-zero}
 use native.Mathlib.Omega.{arith}
 use borrow.Author.Count.{below-more}
-use borrow.Author.Tests.{leb-true, leb-false, le-leb, lt-leb}
+use borrow.Author.Tests.{leb-true, le-leb, lt-leb}
 use lib.IntN.{ℤ, pos}
 use lib.Dec.{eqb}
 use lib.ListN.{length, getD, set, take, drop, length-set, length-map, take-append-drop}
@@ -21,7 +21,7 @@ use Rattle.cut.specs.Cut.{over}
 use Rattle.cut.specs.Forest.{at, Forest, VertexWords, CornerWords, isRoot, rootVertices, Numbered, Renumbered}
 use Rattle.cut.proofs.Counting.{map-at, count-down, word-after}
 use Rattle.cut.proofs.Filled.{Filled, filled-start, filled-more, filled-end}
-use Rattle.cut.proofs.Roots.{rootsIn, anyCorner, forest-earliest, parent-earlier, parent-own, roots-split, root-place, place-of-root, distinct-all}
+use Rattle.cut.proofs.Roots.{rootsIn, anyCorner, forest-earliest, parent-earlier, parent-own, root-by-parent, roots-split, root-place, place-of-root, distinct-all}
 
 -- the roots of c corners, and those from e on
 abbrev roots : List ℕ → ℕ → List ℕ
@@ -201,11 +201,11 @@ module _ (l : List ℤ) (w₀ : List ℕ) (c : ℕ) (C : CornerWords l c w₀) (
   labels-long = omega (arith, F .long, C .words .table .long)
 
   root-is : (i : ℕ) → i < c → (eqb (at labels i) i && true) ≡ isRoot w₀ c i
-  root-is i h = go (isRoot w₀ c i) refl
+  root-is i h = rw (← root-by-parent w₀ (3 * c) labels F i (omega (arith, labels-long))) (go (isRoot w₀ c i))
     where
-      go : (t : Bool) → isRoot w₀ c i ≡ t → (eqb (at labels i) i && true) ≡ t
-      go true q = rw (parent-own w₀ (3 * c) labels F i (omega (arith, labels-long)) (leb-true i (at w₀ (3 * c + i)) q))
-      go false q = rw (parent-earlier w₀ (3 * c) labels F i (omega (arith, labels-long)) (leb-false i (at w₀ (3 * c + i)) q))
+      go : (t : Bool) → (t && true) ≡ t
+      go true = refl
+      go false = refl
 
   root-entry : (i : ℕ) → i < c → isRoot w₀ c i ≡ true → entryOf l labels i ≡ pos (at w₀ (c + i))
   root-entry i h q =

@@ -6,8 +6,8 @@ use mathlib.Core.Bool.{Bool, true, false, cond, _&&_, _||_, true≢false, false�
 use mathlib.Core.List.{List, [], _∷_}
 use native.Mathlib.Numerals.{add-one}
 use native.Mathlib.Omega.{arith}
-use borrow.Author.Tests.{eqb-true, eqb-false, eq-eqb, ne-eqb, ltb-true, ltb-false}
-use lib.Dec.{ltb, eqb}
+use borrow.Author.Tests.{eqb-true, eqb-false, eq-eqb, ne-eqb, leb-true, leb-false, ltb-true, ltb-false}
+use lib.Dec.{leb, ltb, eqb}
 use lib.ListN.{length, drop, drop-of-length-le}
 use lib.Seq.{drop-cons}
 use Rattle.edges.specs.Choose.{choose}
@@ -47,6 +47,13 @@ module _ (w : List ℕ) (p : ℕ) (labels : List ℕ) (F : Forest w p labels) wh
 
   pub parent-own : (i : ℕ) → i < length labels → i ≤ at w (p + i) → eqb (at labels i) i ≡ true
   parent-own i h l = eq-eqb (at labels i) i (F .root i h (omega (arith, F .down i h)))
+
+  pub root-by-parent : (i : ℕ) → i < length labels → leb i (at w (p + i)) ≡ eqb (at labels i) i
+  root-by-parent i h = go (leb i (at w (p + i))) refl
+    where
+      go : (t : Bool) → leb i (at w (p + i)) ≡ t → t ≡ eqb (at labels i) i
+      go true q = sym (parent-own i h (leb-true i (at w (p + i)) q))
+      go false q = sym (parent-earlier i h (leb-false i (at w (p + i)) q))
 
 -- of the corners e to e + n - 1 those that q holds of and that are their own labels
 abbrev pub rootsIn : (ℕ → Bool) → List ℕ → ℕ → ℕ → List ℕ

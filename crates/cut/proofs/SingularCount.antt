@@ -151,6 +151,23 @@ ends-counted w c n xs k e h L =
     let none : c - e ≡ 0 = omega arith in
     record { marked = λ v i. rw none at (L .left v (omega (arith, L .size))); counted = L .counted }
 
+-- without singular edges there are none
+module _ (w : List ℕ) (c : ℕ) (f : (e : ℕ) → e < c → singularWord c e (at w (2 * c + e)) ≡ false) where
+  no-ends : (v n e : ℕ) → e + n ≡ c → marksEnd (singularWord c) w c v e n ≡ false
+  no-ends v zero e h = refl
+  no-ends v (suc n) e h = rw (f e (omega arith), no-ends v n (suc e) (omega arith)) (go (touchesAt w c v e))
+    where
+      go : (t : Bool) → ((t && false) || false) ≡ false
+      go true = refl
+      go false = refl
+
+  pub ends-none : (xs : List ℕ) → xs ≡ replicate (length xs) 0 → EndsCounted w c xs 0
+  ends-none xs z =
+      record {
+        marked = λ v h. rw (no-ends v c 0 (omega arith)) (ap (λ (ys : List ℕ). at ys v) z ∙ getD-replicate (length xs) v 0 0 h);
+        counted = sym (ap (count isSingularMark) z ∙ count-zeros (length xs));
+      }
+
 -- the fans
 
 pub record FansLoop (l : List ℤ) (old xs : List ℕ) (k i : ℕ) : Type 0 where

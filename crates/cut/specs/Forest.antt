@@ -16,7 +16,7 @@
 --   Numbered           the numbers that are written over the first block, the map after and before, and how many roots there are
 --   Grouped l c w      w holds the edge table of the list l and the parents of its fans
 --   Renumbered         the new list, the map after and before, and the number of new vertices, for these labels
---   GroupsCut          what is made of the groups of a list with n vertices: the new list and the map, and the two counts of vertices
+--   GroupsCut          what is made of the groups of a list with n vertices: the new list, the map and two counts of vertices
 --   CutMade            what is made of a valid list: the three counts, the new list, the map and the cleared work
 --   linksAcross        the links across an edge whose two uses start at two corners, from the words of the edge table
 --   linksAtCorner      the links at a corner, the earlier of the two

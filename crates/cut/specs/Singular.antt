@@ -6,12 +6,13 @@
 --   secondFan m          1 where that fan makes the vertex singular
 --   afterFans k m        the mark m once k more fans are met
 --   MadeSingular         the marks once the vertex v is singular, and 1 where it was not before
+--   NoneWhereZero        where the number of singular edges is 0, no mate's word is that of one
 --   EndsCounted          the marks of the endpoints of singular edges, and how many there are
 --   FansCounted          the marks once a fan is met at each of the vertices vs, and how many more singular vertices there are
-use Prim.Native.Nat.{ℕ, zero, suc, _+_, _≤_, _<_}
+use Prim.Native.Nat.{ℕ, zero, suc, _+_, _*_, _≤_, _<_}
 use mathlib.Core.Path.{_≡_}
 use mathlib.Core.List.{List}
-use mathlib.Core.Bool.{Bool, cond}
+use mathlib.Core.Bool.{Bool, false, cond}
 use lib.Dec.{leb, eqb}
 use lib.ListN.{length, set}
 use Rattle.edges.specs.Choose.{count}
@@ -35,6 +36,9 @@ pub record MadeSingular (old : List ℕ) (v : ℕ) (marks : List ℕ) (r : ℕ) 
   pub marked : marks ≡ set old v 2
   pub few : r ≤ 1
   pub counted : r + count isSingularMark old ≡ count isSingularMark marks
+
+pub record NoneWhereZero (w : List ℕ) (c edges : ℕ) : Type 0 where
+  pub none : edges ≡ 0 → (e : ℕ) → e < c → singularWord c e (at w (2 * c + e)) ≡ false
 
 pub record EndsCounted (w : List ℕ) (c : ℕ) (marks : List ℕ) (r : ℕ) : Type 0 where
   pub marked : (v : ℕ) → v < length marks → at marks v ≡ cond (marksEnd (singularWord c) w c v 0 c) 2 0

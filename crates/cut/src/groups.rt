@@ -1,6 +1,6 @@
 // Groups of corners in the work buffer: for each corner a parent, in the block that starts at p, that is not after it.
 ghost use mathlib.Core.Path.{_≡_};
-ghost use Prim.Native.Nat.{_+_, _-_, _*_, _<_, _≤_, _^_};
+ghost use Prim.Native.Nat.{_+_, _-_, _*_, _<_, _≤_, _^_, min, max};
 ghost use lib.ListN.{length, take};
 ghost use Rattle.cut.specs.Groups.{merge, mergeAll, upTo, labelsOf};
 ghost use Rattle.cut.specs.Forest.{Rises, Climbs, Regrouped, TableWords, Forest, link, linksAcross, tableLinks};
@@ -28,6 +28,19 @@ fn root(w: &[u32], p: usize, x: usize) -> usize
     r
 }
 
+// The earlier of two corners, and the later: which of them it is cannot be guessed, so neither is found by a branch of the join.
+fn earlier(a: usize, b: usize) -> usize
+    ensures { λ r. ⌜ r ≡ min a b ⌝ }
+{
+    if a < b { a } else { b }
+}
+
+fn later(a: usize, b: usize) -> usize
+    ensures { λ r. ⌜ r ≡ max a b ⌝ }
+{
+    if a < b { b } else { a }
+}
+
 // Joins the groups of the corners x and y: the later of their two roots gets the earlier for its parent.
 fn join(w: &mut [u32], p: usize, x: usize, y: usize)
     requires { ⌜ (p + x < length (now w)) × (p + y < length (now w)) × (length (now w) < 2 ^ 32) ⌝ }
@@ -35,11 +48,8 @@ fn join(w: &mut [u32], p: usize, x: usize, y: usize)
 {
     let a = root(w, p, x);
     let b = root(w, p, y);
-    if a < b {
-        w[p + b] = a as u32;
-    } else {
-        w[p + a] = b as u32;
-    }
+    let last = later(a, b);
+    w[p + last] = earlier(a, b) as u32;
 }
 
 // Joins across the regular edge whose two uses start at the corners e and m: the two corners at each of its endpoints.

@@ -56,9 +56,6 @@ struct VertexCounts {
     singular_vertices: usize,
 }
 
-// A list of at most this many vertices doesn't pay for the most marks that there may be.
-const FEW_VERTICES: usize = 2048;
-
 // The classes of the vertices 0 to n-1, a byte each at the start of `classes`, and code 0. Refuses what the check refuses, a
 // class buffer shorter than n by 8 and work shorter than four words a corner by 9; then nothing is written.
 pub fn classes(list: &[i32], n: usize, classes: &mut [u8], work: &mut [u32]) -> ClassesAnswer
@@ -167,19 +164,21 @@ fn refusal(code: u32, place: usize) -> CutAnswer
     }
 }
 
-// The new vertices of the groups of a valid list, and the number of its singular vertices, with a mark for each vertex, all 0.
+// The new vertices of the groups of a valid list, and the number of its singular vertices, from that of its singular edges and
+// with a mark for each vertex, all 0.
 fn cut_marked(
     list: &[i32],
     c: usize,
     new_list: &mut [i32],
     map: &mut [i32],
     work: &mut [u32],
+    edges: usize,
     marks: &mut [u8],
 ) -> VertexCounts
-    requires { ⌜ Valid (now list) (length (now marks)) × Grouped (now list) c (now work) × (length (now «new_list») ≡ length (now list)) × (c ≤ length (now map)) × (now marks ≡ replicate (length (now marks)) 0) ⌝ }
+    requires { ⌜ Valid (now list) (length (now marks)) × Grouped (now list) c (now work) × (edges ≡ singularEdges (now list)) × (length (now «new_list») ≡ length (now list)) × (c ≤ length (now map)) × (now marks ≡ replicate (length (now marks)) 0) ⌝ }
     ensures { λ r. ⌜ GroupsCut (now (list .entry)) (length (now (marks .entry))) (r .vertices) (r .«singular_vertices») (now («new_list» .exit)) (now (map .entry)) (now (map .exit)) ⌝ }
 {
-    let ends = singular::mark_singular_ends(work, c, marks);
+    let ends = singular::singular_ends(work, c, edges, marks);
     let vertices = renumber::renumber(list, work, c, new_list, map);
     let fans = singular::count_fans(&map[..vertices], marks);
     let singular_vertices = ends + fans;
@@ -197,16 +196,17 @@ fn cut_groups(
     new_list: &mut [i32],
     map: &mut [i32],
     work: &mut [u32],
+    edges: usize,
 ) -> VertexCounts
-    requires { ⌜ Valid (now list) n × Grouped (now list) c (now work) × (length (now «new_list») ≡ length (now list)) × (c ≤ length (now map)) ⌝ }
+    requires { ⌜ Valid (now list) n × Grouped (now list) c (now work) × (edges ≡ singularEdges (now list)) × (length (now «new_list») ≡ length (now list)) × (c ≤ length (now map)) ⌝ }
     ensures { λ r. ⌜ GroupsCut (now (list .entry)) n (r .vertices) (r .«singular_vertices») (now («new_list» .exit)) (now (map .entry)) (now (map .exit)) ⌝ }
 {
-    if n <= FEW_VERTICES {
-        let mut marks = [0u8; FEW_VERTICES];
-        cut_marked(list, c, new_list, map, work, &mut marks[..n])
+    if n <= IndexList::FEW_VERTICES {
+        let mut marks = [0u8; IndexList::FEW_VERTICES];
+        cut_marked(list, c, new_list, map, work, edges, &mut marks[..n])
     } else {
         let mut marks = [0u8; IndexList::MAX_VERTICES];
-        cut_marked(list, c, new_list, map, work, &mut marks[..n])
+        cut_marked(list, c, new_list, map, work, edges, &mut marks[..n])
     }
 }
 
@@ -223,7 +223,7 @@ fn cut_list(
     ensures { λ r. ⌜ CutMade (now (list .entry)) n c (r .vertices) (r .«singular_edges») (r .«singular_vertices») (now («new_list» .exit)) (now (map .entry)) (now (map .exit)) (now (work .exit)) ⌝ }
 {
     let singular_edges = group_list(list, n, c, work);
-    let counts = cut_groups(list, n, c, new_list, map, work);
+    let counts = cut_groups(list, n, c, new_list, map, work, singular_edges);
     work::clear(work);
     Counts {
         vertices: counts.vertices,

@@ -6,7 +6,7 @@ ghost use lib.IntN.{pos};
 ghost use lib.ListN.{length, getD, replicate};
 ghost use Rattle.list.specs.Faces.{num, vertices};
 ghost use Rattle.cut.specs.Forest.{VertexWords};
-ghost use Rattle.cut.specs.Singular.{fanMet, secondFan, MadeSingular, EndsCounted, FansCounted};
+ghost use Rattle.cut.specs.Singular.{fanMet, secondFan, MadeSingular, NoneWhereZero, EndsCounted, FansCounted};
 
 // The vertex v is singular; answers 1 where it was not before.
 fn make_singular(marks: &mut [u8], v: usize) -> usize
@@ -19,7 +19,7 @@ fn make_singular(marks: &mut [u8], v: usize) -> usize
 }
 
 // Marks the endpoints of singular edges, and answers how many there are.
-pub fn mark_singular_ends(w: &[u32], c: usize, marks: &mut [u8]) -> usize
+fn mark_singular_ends(w: &[u32], c: usize, marks: &mut [u8]) -> usize
     requires { ⌜ VertexWords (now w) c (length (now marks)) × (now marks ≡ replicate (length (now marks)) 0) ⌝ }
     ensures { λ r. ⌜ EndsCounted (now (w .entry)) c (now (marks .exit)) r ⌝ }
 {
@@ -32,6 +32,17 @@ pub fn mark_singular_ends(w: &[u32], c: usize, marks: &mut [u8]) -> usize
         }
     }
     k
+}
+
+// The same, where the number of singular edges is known: without any the edge table is not read.
+pub fn singular_ends(w: &[u32], c: usize, edges: usize, marks: &mut [u8]) -> usize
+    requires { ⌜ VertexWords (now w) c (length (now marks)) × (now marks ≡ replicate (length (now marks)) 0) × NoneWhereZero (now w) c edges ⌝ }
+    ensures { λ r. ⌜ EndsCounted (now (w .entry)) c (now (marks .exit)) r ⌝ }
+{
+    if edges == 0 {
+        return 0;
+    }
+    mark_singular_ends(w, c, marks)
 }
 
 // The mark m once another fan is met.

@@ -1,31 +1,30 @@
 -- The table's parts put together: keys tell edges apart, so corners of one key share an edge, and the four blocks are the table.
-use Prim.Native.Nat.{ℕ, _+_, _*_, _≤_, _<_}
+use Prim.Native.Nat.{ℕ, _+_, _*_, _/_, _%_, _≤_, _<_}
 use mathlib.Core.Path.{_≡_, refl, sym, _∙_, ap, ap₂}
 use mathlib.Core.Bool.{Bool, true, false, false≢true}
-use mathlib.Core.List.{List, [], _∷_, _++_, map}
+use mathlib.Core.List.{List, _++_, map}
 use mathlib.Core.Logic.{inl}
 use native.Mathlib.Omega.{arith}
 use native.Mathlib.Nat.{zero-add}
 use borrow.Author.Tests.{eq-eqb, ne-eqb}
 use lib.Dec.{eqb}
 use lib.IntN.{ℤ}
-use lib.ListN.{length, getD, replicate, length-map, List·getD-map}
+use lib.ListN.{length, getD, replicate, length-map, length-replicate, getD-replicate, List·getD-map}
 use lib.Seq.{take-all, ext-getD}
-use Rattle.list.specs.Limits.{maxEntries, maxVertices}
+use Rattle.list.specs.Limits.{maxVertices}
 use Rattle.list.specs.Check.{Valid}
-use Rattle.edges.specs.Choose.{choose, count, All, upFrom}
+use Rattle.edges.specs.Choose.{choose, count, upFrom}
 use Rattle.edges.specs.Uses.{Use, uses, hi, onEdge, mateAmong, startsMany, startsSingular, singularEdges}
 use Rattle.edges.specs.Table.{nextWords, vertexWords, mateWord, mateWords, tableOf}
-use Rattle.edges.specs.Sort.{keyOf, part, Kept, digitIs, Sorted, Arranged, keyAt, lower, KeysBelow, Ordered}
-use Rattle.edges.specs.Runs.{sameKey, wordBy, startsBy, MateReady, RightAt}
-use Rattle.edges.specs.Matching.{Grouped}
-use Rattle.edges.proofs.Lists.{all-in, all-map, all-both, choose-same, choose-map, upFrom-in, from-table}
+use Rattle.edges.specs.Sort.{keyOf, part, Kept, digitIs, keyAt, KeysBelow}
+use Rattle.edges.specs.Matching.{sameKey, wordBy, startsBy, RightAt}
+use Rattle.edges.proofs.Lists.{all-in, choose-same, choose-map, upFrom-in, from-table}
+use Rattle.edges.specs.Words.{cornerOf, cornerWords, TakenApart}
 use Rattle.edges.proofs.Uses.{noUse, useAt, corner-at}
 use Rattle.edges.proofs.Faces.{on-edge, edge-on, use-proper}
 use Rattle.edges.proofs.Mates.{sharing, sharing-is, mate-is, word}
 use Rattle.edges.proofs.Table.{mates-long, word-at}
-use Rattle.edges.proofs.Parts.{length-part, getD-part, part-same, part-add, kept-part}
-use Rattle.edges.proofs.Chain.{Chain}
+use Rattle.edges.proofs.Parts.{length-part, getD-part, part-add, kept-part}
 
 -- keys tell edges apart
 key-edge : (u v : Use) → hi u < maxVertices → hi v < maxVertices → eqb (keyOf u) (keyOf v) ≡ onEdge (v .from) (v .to) u
@@ -80,61 +79,9 @@ keys-below l n c w v u k e h =
     let x : keyAt w e ≡ keyOf (useAt l e) = sym (getD-part 0 c w e h ∙ rw zero-add) ∙ ap (λ (xs : List ℕ). getD xs e 0) k ∙ key-at l n v e in
     (omega (arith, x, p .from-in, p .to-in, v .few-vertices), omega (arith, x, p .from-in, p .to-in, v .few-vertices))
 
--- keys that agree on the corners serve alike
-
-module _ (c : ℕ) (f g : ℕ → ℕ) (h : (e : ℕ) → e < c → f e ≡ g e) where
-  sorted-same : (d : ℕ → ℕ) (xs : List ℕ) → All (λ (e : ℕ). e < c) xs → Sorted (λ (e : ℕ). d (f e)) xs → Sorted (λ (e : ℕ). d (g e)) xs
-  sorted-same d [] a s = tt
-  sorted-same d (x ∷ xs) a s = (
-    all-map (λ (y : ℕ). (y < c) × (d (f x) ≤ d (f y))) (λ (y : ℕ). d (g x) ≤ d (g y)) xs (λ y p. rw (← h x (a .0), ← h y (p .0)) (p .1)) (all-both (λ (y : ℕ). y < c) (λ (y : ℕ). d (f x) ≤ d (f y)) xs (a .1) (s .0)),
-    sorted-same d xs (a .1) (s .1),
-  )
-
-  digits-same : (k : ℕ) (xs : List ℕ) → All (λ (e : ℕ). e < c) xs → choose (digitIs f k) xs ≡ choose (digitIs g k) xs
-  digits-same k xs a = choose-same (digitIs f k) (digitIs g k) xs (all-map (λ (e : ℕ). e < c) (λ (e : ℕ). digitIs f k e ≡ digitIs g k e) xs (λ e q. rw (h e q)) a)
-
-  -- the order goes by d of the keys
-  arranged-same : (d : ℕ → ℕ) (xs : List ℕ) → Arranged c f (λ (e : ℕ). d (f e)) xs → Arranged c g (λ (e : ℕ). d (g e)) xs
-  arranged-same d xs a =
-      let row = all-in (λ (e : ℕ). e < c) (upFrom 0 c) (λ e i. omega (arith, upFrom-in 0 c e i)) in
-      record {
-        order = a .order;
-        stable = λ k. sym (digits-same k xs (a .order .inside)) ∙ a .stable k ∙ digits-same k (upFrom 0 c) row;
-        sorted = sorted-same d xs (a .order .inside) (a .sorted);
-      }
-
--- an order by keys is ready for the mates
-pub ordered-ready : (c : ℕ) (w w′ : List ℕ) → c ≤ maxEntries → length w ≡ 4 * c → Ordered c w w′ → MateReady c w′
-ordered-ready c w w′ few long o =
-    record {
-      few = few;
-      long = o .long ∙ long;
-      arranged = arranged-same c (keyAt w) (keyAt (part 0 c w′)) (λ e h. sym (getD-part 0 c w′ e h ∙ rw zero-add (o .keys e h))) (λ (k : ℕ). k) (part c c w′) (o .arranged);
-    }
-
--- an order by lower vertices is ready for the matching
-module _ (c n : ℕ) (w w′ : List ℕ) (few : c ≤ maxEntries) (b : n ≤ c) (v : KeysBelow c n w) (C : Chain c (keyAt w) (λ (e : ℕ). lower (keyAt w e)) c w′) where
-  key-is : (e : ℕ) → e < c → keyAt w e ≡ keyAt (part 0 c w′) e
-  key-is e h = sym (getD-part 0 c w′ e h ∙ rw zero-add (C .keys e h))
-
-  pub chain-grouped : Grouped c w′
-  chain-grouped =
-      record {
-        few = few;
-        long = C .long;
-        fits = λ e h. rw (← key-is e h) (omega (arith, v e h .1));
-        arranged = arranged-same c (keyAt w) (keyAt (part 0 c w′)) key-is lower (part c c w′) (C .arranged);
-      }
-
--- the keys read alike from equal first blocks
-pub keys-below-same : (c n : ℕ) (w w′ : List ℕ) → part 0 c w′ ≡ part 0 c w → KeysBelow c n w → KeysBelow c n w′
-keys-below-same c n w w′ p v e h =
-    let q : keyAt w′ e ≡ keyAt w e = sym (getD-part 0 c w′ e h ∙ rw zero-add) ∙ ap (λ (xs : List ℕ). getD xs e 0) p ∙ getD-part 0 c w e h ∙ rw zero-add in
-    rw q (v e h)
-
--- keys that are kept are the same first block
-pub keys-part : (c : ℕ) (w w′ : List ℕ) → length w ≡ 4 * c → length w′ ≡ length w → ((e : ℕ) → e < c → keyAt w′ e ≡ keyAt w e) → part 0 c w′ ≡ part 0 c w
-keys-part c w w′ l s k = part-same 0 0 c w′ w (omega arith) (omega arith) (λ e h. rw zero-add (k e h))
+-- keys that are kept are below it still
+pub keys-below-kept : (c n : ℕ) (w w′ : List ℕ) → Kept c (2 * c) w w′ → KeysBelow c n w → KeysBelow c n w′
+keys-below-kept c n w w′ k v e h = rw (k .low e h) (v e h)
 
 four-parts : (c : ℕ) (w : List ℕ) → length w ≡ 4 * c → w ≡ part 0 c w ++ part c c w ++ part (2 * c) c w ++ part (3 * c) c w
 four-parts c w h =
@@ -146,35 +93,57 @@ four-parts c w h =
     let four : part 0 (4 * c) w ≡ part 0 (3 * c) w ++ part (3 * c) c w = rw e₄ (part-add 0 (3 * c) c w ∙ rw zero-add) in
     sym (take-all (4 * c) w (omega arith)) ∙ four ∙ rw (three, two)
 
--- the four blocks are the table: w₁ has the keys, w₂ the mates, w₃ the next corners and the vertices, w₄ the zeros
-module _ (l : List ℤ) (n c : ℕ) (v : Valid l n) (u : length (uses l) ≡ c) (w₁ w₂ w₃ w₄ : List ℕ) (keys : part 0 c w₁ ≡ map keyOf (uses l)) where
+-- the four blocks are the table: w₁ has the keys and the corners' words, w₂ the mates beside them, w₃ the words taken apart
+module _ (l : List ℤ) (n c : ℕ) (v : Valid l n) (u : length (uses l) ≡ c) (w₁ w₂ w₃ : List ℕ) (keys : part 0 c w₁ ≡ map keyOf (uses l)) where
   pub table-singular : (r : ℕ) → r ≡ count (startsBy (part 0 c w₁)) (upFrom 0 c) → r ≡ singularEdges l
   table-singular r e = e ∙ rw (keys, ← u) (key-singular l n v)
 
   module _
-      (long : length w₂ ≡ 4 * c)
+      (long : length w₁ ≡ 4 * c)
+      (words : part (3 * c) c w₁ ≡ cornerWords (uses l))
       (right : (e : ℕ) → e < c → RightAt c (part 0 c w₁) w₂ e)
-      (nexts : part 0 c w₃ ≡ nextWords (uses l))
-      (vertices : part c c w₃ ≡ vertexWords (uses l))
-      (kept₃ : Kept 0 (2 * c) w₂ w₃)
-      (zeros : part (3 * c) c w₄ ≡ replicate c 0)
-      (kept₄ : Kept (3 * c) c w₃ w₄)
+      (kept : Kept c (2 * c) w₁ w₂)
+      (apart : TakenApart c w₂ w₃)
     where
-      long₄ : length w₄ ≡ 4 * c
-      long₄ = kept₄ .long ∙ kept₃ .long ∙ long
+      long₃ : length w₃ ≡ 4 * c
+      long₃ = apart .long ∙ kept .long ∙ long
 
-      mate₄ : (e : ℕ) → e < c → getD w₄ (2 * c + e) 0 ≡ getD (mateWords (uses l)) e 0
-      mate₄ e h =
-          kept₄ .low (2 * c + e) (omega arith) ∙ kept₃ .high (2 * c + e) (omega arith) ∙ right e h ∙
-          rw keys (key-word-is l n v e (rw u h)) ∙ sym (word-at l e (rw u h))
+      block : (s : ℕ) (ys : List ℕ) → s + c ≤ 4 * c → length ys ≡ c → ((e : ℕ) → e < c → getD w₃ (s + e) 0 ≡ getD ys e 0) → part s c w₃ ≡ ys
+      block s ys h k f =
+          let m : length (part s c w₃) ≡ c = length-part s c w₃ (omega (arith, long₃)) in
+          ext-getD 0 (part s c w₃) ys (m ∙ sym k) (λ e q. let i : e < c = rw m at q in getD-part s c w₃ e i ∙ f e i)
 
-      mates : part (2 * c) c w₄ ≡ mateWords (uses l)
+      word₂ : (e : ℕ) → e < c → getD w₂ (3 * c + e) 0 ≡ cornerOf (useAt l e)
+      word₂ e h =
+          kept .high (3 * c + e) (omega arith) ∙ sym (getD-part (3 * c) c w₁ e h) ∙ ap (λ (xs : List ℕ). getD xs e 0) words ∙
+          List·getD-map cornerOf (uses l) e noUse
+
+      from-in : (e : ℕ) → e < c → useAt l e .from < maxVertices
+      from-in e h = let p = use-proper l n v e (rw u h) in omega (arith, p .from-in, v .few-vertices)
+
+      nexts : part 0 c w₃ ≡ nextWords (uses l)
+      nexts =
+          block 0 (nextWords (uses l)) (omega arith) (length-map (uses l) (λ (x : Use). x .next) ∙ u)
+          (λ e h.
+          let d : cornerOf (useAt l e) / maxVertices ≡ useAt l e .next = omega (arith, from-in e h) in
+          let z : 0 + e ≡ e = omega arith in
+          ap (λ (k : ℕ). getD w₃ k 0) z ∙ apart .next e h ∙ rw (word₂ e h) d ∙ sym (List·getD-map (λ (x : Use). x .next) (uses l) e noUse))
+
+      vertices : part c c w₃ ≡ vertexWords (uses l)
+      vertices =
+          block c (vertexWords (uses l)) (omega arith) (length-map (uses l) (λ (x : Use). x .from) ∙ u)
+          (λ e h.
+          let d : cornerOf (useAt l e) % maxVertices ≡ useAt l e .from = omega (arith, from-in e h) in
+          apart .vertex e h ∙ rw (word₂ e h) d ∙ sym (List·getD-map (λ (x : Use). x .from) (uses l) e noUse))
+
+      mates : part (2 * c) c w₃ ≡ mateWords (uses l)
       mates =
-          ext-getD 0 (part (2 * c) c w₄) (mateWords (uses l)) (length-part (2 * c) c w₄ (omega (arith, long₄)) ∙ sym (mates-long (uses l) ∙ u))
-          (λ e q. let h : e < c = rw (length-part (2 * c) c w₄ (omega (arith, long₄))) at q in getD-part (2 * c) c w₄ e h ∙ mate₄ e h)
+          block (2 * c) (mateWords (uses l)) (omega arith) (mates-long (uses l) ∙ u)
+          (λ e h. apart .mate e h ∙ right e h ∙ rw keys (key-word-is l n v e (rw u h)) ∙ sym (word-at l e (rw u h)))
 
-      pub table-is : w₄ ≡ tableOf l
+      zeros : part (3 * c) c w₃ ≡ replicate c 0
+      zeros = block (3 * c) (replicate c 0) (omega arith) (length-replicate c 0) (λ e h. apart .clear e h ∙ sym (getD-replicate c e 0 0 h))
+
+      pub table-is : w₃ ≡ tableOf l
       unfolding tableOf
-      table-is =
-          four-parts c w₄ long₄ ∙
-          rw (kept-part (3 * c) c 0 c w₃ w₄ (inl (omega arith)) (omega (arith, long₄, kept₄ .long)) kept₄ ∙ nexts, kept-part (3 * c) c c c w₃ w₄ (inl (omega arith)) (omega (arith, long₄, kept₄ .long)) kept₄ ∙ vertices, mates, zeros, u)
+      table-is = four-parts c w₃ long₃ ∙ rw (nexts, vertices, mates, zeros, u)

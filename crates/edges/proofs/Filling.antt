@@ -15,8 +15,8 @@ use lib.Seq.{take-suc, take-length, getD-set-same, getD-set-other}
 use Rattle.list.specs.Faces.{num, vertices}
 use Rattle.list.proofs.Repeats.{vertex-of, vertices-long}
 use Rattle.edges.specs.Uses.{Use, usesOfFace, nextIn}
-use Rattle.edges.specs.Table.{nextWords}
 use Rattle.edges.specs.Sort.{pairKey, keyOf, part, Kept}
+use Rattle.edges.specs.Words.{cornerWord, cornerOf, cornerWords}
 use Rattle.edges.proofs.Parts.{part-snoc, part-before, kept-none, kept-set}
 use Rattle.edges.proofs.Uses.{noUse, use-in, uses-face-long}
 
@@ -83,8 +83,8 @@ module _ (at : ℕ) (r : List ℤ) (i : ℕ) (h : i < length r) where
   pub key-word : pairKey (num (getD r i (pos 0))) (num (getD r (nextIn (length r) i) (pos 0))) ≡ getD (map keyOf (usesOfFace at (vertices r))) i 0
   key-word = sym (List·getD-map keyOf (usesOfFace at (vertices r)) i noUse ∙ ap keyOf place)
 
-  pub next-word : at + nextIn (length r) i ≡ getD (nextWords (usesOfFace at (vertices r))) i 0
-  next-word = sym (List·getD-map (λ (u : Use). u .next) (usesOfFace at (vertices r)) i noUse ∙ ap (λ (u : Use). u .next) place)
+  pub corner-word : cornerWord (at + nextIn (length r) i) (num (getD r i (pos 0))) ≡ getD (cornerWords (usesOfFace at (vertices r))) i 0
+  corner-word = sym (List·getD-map cornerOf (usesOfFace at (vertices r)) i noUse ∙ ap cornerOf place)
 
 -- a word for each corner of the face
 pub words-long : (g : Use → ℕ) (at : ℕ) (r : List ℤ) → length (map g (usesOfFace at (vertices r))) ≡ length r

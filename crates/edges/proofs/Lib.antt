@@ -9,9 +9,9 @@ pub mod Scatter
 pub mod Counting
 pub mod Bucket
 pub mod Chain
-pub mod Pairs
 pub mod Meeting
 pub mod Filling
 pub mod Walk
+pub mod Apart
 pub mod Assembly
 pub mod Question

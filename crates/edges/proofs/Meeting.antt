@@ -3,28 +3,26 @@
 --   written M e v        M with v for e
 --   Settled c e ys M M′ r    corner e came behind the corners ys of its key, with the words M: M′ has the right words for all of
 --                        them, and M's for all others; r is 1 where e is the third, else 0
-use Prim.Native.Nat.{ℕ, zero, suc, _+_, _-_, _*_, _≤_, _<_}
+use Prim.Native.Nat.{ℕ, zero, suc, _+_, _*_, _≤_, _<_}
 use mathlib.Core.Path.{_≡_, refl, sym, _∙_, ap}
 use mathlib.Core.Bool.{Bool, true, false, cond, false≢true}
 use mathlib.Core.List.{List, [], _∷_, _++_, append-nil}
-use mathlib.Core.Logic.{inl, inr}
+use mathlib.Core.Logic.{_⊎_, inl, inr}
 use native.Mathlib.Omega.{arith}
-use native.Mathlib.Nat.{zero-add, add-zero}
+use native.Mathlib.Nat.{zero-add}
 use native.Mathlib.Numerals.{add-one}
 use borrow.Author.Tests.{eq-eqb, ne-eqb, eqb-true, eqb-false}
 use lib.Dec.{eqb}
-use lib.ListN.{length, getD, take, drop, set, replicate, length-set, getD-replicate, take-append-drop}
+use lib.ListN.{length, getD, take, drop, set, replicate, length-set, length-replicate, getD-replicate, take-append-drop}
 use lib.Seq.{take-suc, take-all, getD-take, getD-set-same, getD-set-other, length-take-le}
 use Rattle.edges.specs.Choose.{choose, count, All, upFrom}
 use Rattle.edges.specs.Uses.{mateAmong, startsMany}
 use Rattle.edges.specs.Table.{mateWord}
-use Rattle.edges.specs.Sort.{part, Kept, digitIs, keyAt, lower, higher, Arranged, KeysBelow}
-use Rattle.edges.specs.Runs.{sameKey, startsBy, RightAt}
-use Rattle.edges.specs.Matching.{lastOf, met, startsMet, cornerAt, earlier, lastAt, noted, Grouped, Met}
+use Rattle.edges.specs.Sort.{part, Kept, digitIs, Sorted, keyAt, lower, higher, Arranged, KeysBelow, Grouped}
+use Rattle.edges.specs.Matching.{sameKey, startsBy, RightAt, lastOf, met, startsMet, cornerAt, earlier, lastAt, noted, Met}
 use Rattle.edges.proofs.Lists.{In, all-at, all-of, all-in, all-map, all-append, in-choose, all-both, in-upFrom, upFrom-in, choose-append, choose-none, choose-same, choose-few, length-upFrom, Rising, rising-choose, rising-upFrom}
-use Rattle.edges.proofs.Parts.{length-part, getD-part, kept-none, kept-part, kept-set, kept-trans, kept-wider}
+use Rattle.edges.proofs.Parts.{length-part, getD-part, kept-none, kept-part, kept-set, kept-trans}
 use Rattle.edges.proofs.Blocks.{all-choose, all-chosen, bit, count-split}
-use Rattle.edges.proofs.Pairs.{sorted-at}
 
 -- the front of a list, and its last element
 
@@ -57,6 +55,18 @@ at-in : (xs : List ℕ) (p : ℕ) → p < length xs → In (getD xs p 0) xs
 at-in [] p h = absurd (omega arith)
 at-in (x ∷ xs) zero h = inl refl
 at-in (x ∷ xs) (suc p) h = inr (at-in xs p (omega arith))
+
+sorted-at : (f : ℕ → ℕ) (xs : List ℕ) → Sorted f xs → (p q : ℕ) → p < q → q < length xs → f (getD xs p 0) ≤ f (getD xs q 0)
+sorted-at f [] s p q h k = absurd (omega arith)
+sorted-at f (x ∷ xs) s zero zero h k = absurd (omega arith)
+sorted-at f (x ∷ xs) s zero (suc q) h k = all-at (λ (y : ℕ). f x ≤ f y) 0 xs (s .0) q (omega arith)
+sorted-at f (x ∷ xs) s (suc p) zero h k = absurd (omega arith)
+sorted-at f (x ∷ xs) s (suc p) (suc q) h k = sorted-at f xs (s .1) p q (omega arith) (omega arith)
+
+-- what corner 0 has is chosen with it at the head
+choose-first : (p : ℕ → Bool) (c : ℕ) → 0 < c → p 0 ≡ true → getD (choose p (upFrom 0 c)) 0 0 ≡ 0
+choose-first p zero h e = absurd (omega arith)
+choose-first p (suc m) h e = rw e
 
 -- one number stands once in a row that has it
 count-one : (b s m : ℕ) → s ≤ b → b < s + m → count (eqb b) (upFrom s m) ≡ 1
@@ -240,7 +250,7 @@ module _ (c : ℕ) (w : List ℕ) (g : Grouped c w) where
   pub key-of : (e : ℕ) → e < c → getD w e 0 ≡ keyAt (part 0 c w) e
   key-of e h = sym (getD-part 0 c w e h ∙ rw zero-add)
 
-module _ (c i : ℕ) (w : List ℕ) (m : Met c i w) (h : i < c) where
+module _ (c i : ℕ) (w ls : List ℕ) (m : Met c i w ls) (h : i < c) where
   abbrev ks : List ℕ
   ks = part 0 c w
 
@@ -262,61 +272,55 @@ module _ (c i : ℕ) (w : List ℕ) (m : Met c i w) (h : i < c) where
   long-order : length xs ≡ c
   long-order = m .grouped .arranged .order .long
 
-  pub vertex-in : higher key < c
-  vertex-in = m .grouped .fits corner corner-in
+  pub vertex-in : higher key < length ls
+  vertex-in = m .fits corner corner-in
 
   -- the last corner met at the vertex is one, and is the last with the key if it has the key
-  pub last-below : lastAt c w corner < c
-  last-below =
-      let p = m .seen corner corner-in in
-      rw (p .2) at (corner-below c w (m .grouped) (p .0) (omega (arith, p .1)))
-
-  last-met : (zs : List ℕ) → before ≡ zs → keyAt ks (lastAt c w corner) ≡ key → lastAt c w corner ≡ lastOf corner zs
-  last-met [] s k =
-      let p = m .seen corner corner-in in
-      go (p .0) (p .1) (p .2) (eqb i 0) refl
+  pub last-below : lastAt c w ls corner < c
+  last-below = go (m .seen corner corner-in)
     where
-      go : (p : ℕ) → p ≤ i - 1 → getD xs p 0 ≡ lastAt c w corner → (t : Bool) → eqb i 0 ≡ t → lastAt c w corner ≡ corner
-      go p l q true t = let z : p ≡ i = omega (arith, eqb-true i 0 t) in sym q ∙ ap (λ (j : ℕ). getD xs j 0) z
-      go p l q false t =
-          let b : p < i = omega (arith, eqb-false i 0 t) in
-          let here : In (getD (take i xs) p 0) (take i xs) = at-in (take i xs) p (rw (length-take-le i xs (omega (arith, long-order))) b) in
-          let there : In (lastAt c w corner) (take i xs) = rw (getD-take i xs p 0 b ∙ q) at here in
-          absurd (rw s at (in-choose (digitIs (keyAt ks) key) (lastAt c w corner) (take i xs) there (eq-eqb (keyAt ks (lastAt c w corner)) key k)))
-  last-met (z ∷ zs) s k = sym (rw s at (m .last i (omega arith) h))
-
-  last-none : (zs : List ℕ) → before ≡ zs → (keyAt ks (lastAt c w corner) ≡ key → ⊥) → corner ≡ lastOf corner zs
-  last-none [] s o = refl
-  last-none (z ∷ zs) s o =
-      let a : All (λ (x : ℕ). keyAt ks x ≡ key) (z ∷ zs) = rw s at (met-key ks xs i key) in
-      let l : lastOf z zs ≡ lastAt c w corner = rw s at (m .last i (omega arith) h) in
-      absurd (o (rw l at (all-last (λ (x : ℕ). keyAt ks x ≡ key) z zs (a .0) (a .1))))
-
-  pub last-hit : keyAt ks (lastAt c w corner) ≡ key → lastAt c w corner ≡ lastOf corner before
-  last-hit = last-met before refl
-
-  pub last-miss : (keyAt ks (lastAt c w corner) ≡ key → ⊥) → corner ≡ lastOf corner before
-  last-miss = last-none before refl
-
-  -- w₁ has the corner as the last one met at its vertex
-  abbrev pub w₁ : List ℕ
-  w₁ = noted c w i
-
-  abbrev pub M₁ : ℕ → ℕ
-  M₁ x = getD w₁ (2 * c + x) 0
-
-  noted-last : getD w₁ (3 * c + higher key) 0 ≡ corner
-  noted-last = getD-set-same w (3 * c + higher key) corner 0 (omega (arith, vertex-in, m .grouped .long))
-
-  words₁ : (k : ℕ) → All (λ (x : ℕ). M₁ x ≡ mateWord c x (mateAmong x (met ks xs i k))) (met ks xs i k)
-  words₁ k =
-      all-map (λ (x : ℕ). (x < c) × (getD w (2 * c + x) 0 ≡ mateWord c x (mateAmong x (met ks xs i k)))) (λ (x : ℕ). M₁ x ≡ mateWord c x (mateAmong x (met ks xs i k))) (met ks xs i k) (λ x p. getD-set-other w (3 * c + higher key) (2 * c + x) corner 0 (omega (arith, p .0)) ∙ p .1) (all-both (λ (x : ℕ). x < c) (λ (x : ℕ). getD w (2 * c + x) 0 ≡ mateWord c x (mateAmong x (met ks xs i k))) (met ks xs i k) (met-inside c ks xs (λ (e : ℕ). lower (keyAt ks e)) (m .grouped .arranged) i k) (m .words k))
-
-  pub before-words : All (λ (x : ℕ). M₁ x ≡ mateWord c x (mateAmong x before)) before
-  before-words = words₁ key
+      go : (lastAt c w ls corner ≡ 0) ⊎ ((p : ℕ) × (p < i) × (cornerAt c w p ≡ lastAt c w ls corner)) → lastAt c w ls corner < c
+      go (inl z) = omega (arith, z)
+      go (inr p) = rw (p .2) at (corner-below c w (m .grouped) (p .0) (omega (arith, p .1)))
 
   all-here : met ks xs (i + 1) key ≡ before ++ (corner ∷ [])
   all-here = met-same ks xs i (rw long-order h)
+
+  -- the first corner with the key of corner 0 is that one
+  first-zero : before ≡ [] → keyAt ks 0 ≡ key → corner ≡ 0
+  first-zero s k =
+      ap (λ (l : List ℕ). getD l 0 0) (rw (all-here, s) at (met-front c ks xs (λ (e : ℕ). lower (keyAt ks e)) (m .grouped .arranged) (i + 1) key)) ∙
+      choose-first (digitIs (keyAt ks) key) c (omega arith) (eq-eqb (keyAt ks 0) key k)
+
+  last-met : (zs : List ℕ) → before ≡ zs → keyAt ks (lastAt c w ls corner) ≡ key → lastAt c w ls corner ≡ lastOf corner zs
+  last-met [] s k = go (m .seen corner corner-in)
+    where
+      go : (lastAt c w ls corner ≡ 0) ⊎ ((p : ℕ) × (p < i) × (cornerAt c w p ≡ lastAt c w ls corner)) → lastAt c w ls corner ≡ corner
+      go (inl z) = z ∙ sym (first-zero s (ap (keyAt ks) (sym z) ∙ k))
+      go (inr p) =
+          let here : In (getD (take i xs) (p .0) 0) (take i xs) = at-in (take i xs) (p .0) (rw (length-take-le i xs (omega (arith, long-order))) (p .1)) in
+          let there : In (lastAt c w ls corner) (take i xs) = rw (getD-take i xs (p .0) 0 (p .1) ∙ p .2) at here in
+          absurd (rw s at (in-choose (digitIs (keyAt ks) key) (lastAt c w ls corner) (take i xs) there (eq-eqb (keyAt ks (lastAt c w ls corner)) key k)))
+  last-met (z ∷ zs) s k = sym (rw s at (m .last i (omega arith) h))
+
+  last-none : (zs : List ℕ) → before ≡ zs → (keyAt ks (lastAt c w ls corner) ≡ key → ⊥) → corner ≡ lastOf corner zs
+  last-none [] s o = refl
+  last-none (z ∷ zs) s o =
+      let a : All (λ (x : ℕ). keyAt ks x ≡ key) (z ∷ zs) = rw s at (met-key ks xs i key) in
+      let l : lastOf z zs ≡ lastAt c w ls corner = rw s at (m .last i (omega arith) h) in
+      absurd (o (rw l at (all-last (λ (x : ℕ). keyAt ks x ≡ key) z zs (a .0) (a .1))))
+
+  pub last-hit : keyAt ks (lastAt c w ls corner) ≡ key → lastAt c w ls corner ≡ lastOf corner before
+  last-hit = last-met before refl
+
+  pub last-miss : (keyAt ks (lastAt c w ls corner) ≡ key → ⊥) → corner ≡ lastOf corner before
+  last-miss = last-none before refl
+
+  abbrev pub M₁ : ℕ → ℕ
+  M₁ x = getD w (2 * c + x) 0
+
+  pub before-words : All (λ (x : ℕ). M₁ x ≡ mateWord c x (mateAmong x before)) before
+  before-words = m .words key
 
   pub here-rises : Rising 0 (before ++ (corner ∷ []))
   here-rises = rw all-here at (met-rises c ks xs (λ (e : ℕ). lower (keyAt ks e)) (m .grouped .arranged) (i + 1) key)
@@ -339,53 +343,52 @@ module _ (c i : ℕ) (w : List ℕ) (m : Met c i w) (h : i < c) where
       (ne-eqb (keyAt ks (getD xs p 0)) f
       (λ u. o (omega (arith, u, s, sorted-at (λ (e : ℕ). lower (keyAt ks e)) xs (m .grouped .arranged .sorted) p i t (rw long-order h), sorted-at (λ (e : ℕ). lower (keyAt ks e)) xs (m .grouped .arranged .sorted) i q a (rw long-order b)))))))
 
-  module _ (w′ : List ℕ) (r : ℕ) (kept : Kept (2 * c) c w₁ w′) (S : Settled c corner before M₁ (λ (x : ℕ). getD w′ (2 * c + x) 0) r) where
-    pub kept-both : Kept (2 * c) (2 * c) w w′
-    kept-both =
-        kept-trans (2 * c) (2 * c) w w₁ w′
-        (kept-set (2 * c) (2 * c) w w (3 * c + higher key) corner (omega arith) (omega (arith, vertex-in)) (kept-none (2 * c) (2 * c) w))
-        (kept-wider (2 * c) c (2 * c) (2 * c) w₁ w′ (omega arith) (omega arith) kept)
+  -- ls′ has the corner as the last one met at its vertex
+  abbrev ls′ : List ℕ
+  ls′ = noted c w ls i
 
+  last-here : (f : ℕ) → higher (keyAt ks f) ≡ higher key → getD ls′ (higher (keyAt ks f)) 0 ≡ corner
+  last-here f s = rw s (getD-set-same ls (higher key) corner 0 vertex-in)
+
+  last-there : (f : ℕ) → (higher (keyAt ks f) ≡ higher key → ⊥) → getD ls′ (higher (keyAt ks f)) 0 ≡ lastAt c w ls f
+  last-there f o = getD-set-other ls (higher key) (higher (keyAt ks f)) corner 0 o
+
+  abbrev Seen′ : ℕ → Type 0
+  Seen′ f = (getD ls′ (higher (keyAt ks f)) 0 ≡ 0) ⊎ ((p : ℕ) × (p < i + 1) × (getD xs p 0 ≡ getD ls′ (higher (keyAt ks f)) 0))
+
+  seen′ : (f : ℕ) → f < c → (t : Bool) → eqb (higher (keyAt ks f)) (higher key) ≡ t → Seen′ f
+  seen′ f b true t = inr (i, omega arith, sym (last-here f (eqb-true (higher (keyAt ks f)) (higher key) t)))
+  seen′ f b false t = go (m .seen f b)
+    where
+      same : getD ls′ (higher (keyAt ks f)) 0 ≡ lastAt c w ls f
+      same = last-there f (eqb-false (higher (keyAt ks f)) (higher key) t)
+
+      go : (lastAt c w ls f ≡ 0) ⊎ ((p : ℕ) × (p < i) × (getD xs p 0 ≡ lastAt c w ls f)) → Seen′ f
+      go (inl z) = inl (same ∙ z)
+      go (inr p) = inr (p .0, omega (arith, p .1), p .2 ∙ sym same)
+
+  abbrev Last′ : ℕ → Type 0
+  Last′ f = lastOf (getD ls′ (higher (keyAt ks f)) 0) (met ks xs (i + 1) (keyAt ks f)) ≡ getD ls′ (higher (keyAt ks f)) 0
+
+  last′ : (q : ℕ) → i + 1 ≤ q → q < c → (t : Bool) → eqb (higher (keyAt ks (getD xs q 0))) (higher key) ≡ t → (u : Bool) → eqb key (keyAt ks (getD xs q 0)) ≡ u → Last′ (getD xs q 0)
+  last′ q a b true t true u =
+      let s : key ≡ keyAt ks (getD xs q 0) = eqb-true key (keyAt ks (getD xs q 0)) u in
+      let l = last-here (getD xs q 0) (eqb-true (higher (keyAt ks (getD xs q 0))) (higher key) t) in
+      rw (l, ← s, all-here) (last-snoc corner corner before)
+  last′ q a b true t false u =
+      let o : key ≡ keyAt ks (getD xs q 0) → ⊥ = eqb-false key (keyAt ks (getD xs q 0)) u in
+      let s : higher (keyAt ks (getD xs q 0)) ≡ higher key = eqb-true (higher (keyAt ks (getD xs q 0))) (higher key) t in
+      rw (last-here (getD xs q 0) s, met-other ks xs i (rw long-order h) (keyAt ks (getD xs q 0)) o, none-before q (omega arith) b s o)
+  last′ q a b false t u v =
+      let o : higher (keyAt ks (getD xs q 0)) ≡ higher key → ⊥ = eqb-false (higher (keyAt ks (getD xs q 0))) (higher key) t in
+      rw (last-there (getD xs q 0) o, met-other ks xs i (rw long-order h) (keyAt ks (getD xs q 0)) (λ s. o (ap higher (sym s)))) (m .last q (omega arith) b)
+
+  module _ (w′ : List ℕ) (r : ℕ) (kept : Kept (2 * c) c w w′) (S : Settled c corner before M₁ (λ (x : ℕ). getD w′ (2 * c + x) 0) r) where
     keys-stay : part 0 c w′ ≡ ks
-    keys-stay = kept-part (2 * c) (2 * c) 0 c w w′ (inl (omega arith)) (omega (arith, m .grouped .long)) kept-both
+    keys-stay = kept-part (2 * c) c 0 c w w′ (inl (omega arith)) (omega (arith, m .grouped .long)) kept
 
     order-stays : part c c w′ ≡ xs
-    order-stays = kept-part (2 * c) (2 * c) c c w w′ (inl (omega arith)) (omega (arith, m .grouped .long)) kept-both
-
-    grouped′ : Grouped c w′
-    grouped′ =
-        record {
-          few = m .grouped .few;
-          long = kept-both .long ∙ m .grouped .long;
-          fits = rw keys-stay (m .grouped .fits);
-          arranged = rw (keys-stay, order-stays) (m .grouped .arranged);
-        }
-
-    last-here : (f : ℕ) → higher (keyAt ks f) ≡ higher key → getD w′ (3 * c + higher (keyAt ks f)) 0 ≡ corner
-    last-here f s = rw s (kept .high (3 * c + higher key) (omega arith) ∙ noted-last)
-
-    last-there : (f : ℕ) → (higher (keyAt ks f) ≡ higher key → ⊥) → getD w′ (3 * c + higher (keyAt ks f)) 0 ≡ lastAt c w f
-    last-there f o = kept .high (3 * c + higher (keyAt ks f)) (omega arith) ∙ getD-set-other w (3 * c + higher key) (3 * c + higher (keyAt ks f)) corner 0 (λ s. o (omega arith))
-
-    seen′ : (f : ℕ) → f < c → (t : Bool) → eqb (higher (keyAt ks f)) (higher key) ≡ t → (p : ℕ) × (p ≤ i + 1 - 1) × (getD xs p 0 ≡ getD w′ (3 * c + higher (keyAt ks f)) 0)
-    seen′ f b true t = (i, omega arith, sym (last-here f (eqb-true (higher (keyAt ks f)) (higher key) t)))
-    seen′ f b false t = let p = m .seen f b in (p .0, omega (arith, p .1), p .2 ∙ sym (last-there f (eqb-false (higher (keyAt ks f)) (higher key) t)))
-
-    abbrev Last′ : ℕ → Type 0
-    Last′ f = lastOf (getD w′ (3 * c + higher (keyAt ks f)) 0) (met ks xs (i + 1) (keyAt ks f)) ≡ getD w′ (3 * c + higher (keyAt ks f)) 0
-
-    last′ : (q : ℕ) → i + 1 ≤ q → q < c → (t : Bool) → eqb (higher (keyAt ks (getD xs q 0))) (higher key) ≡ t → (u : Bool) → eqb key (keyAt ks (getD xs q 0)) ≡ u → Last′ (getD xs q 0)
-    last′ q a b true t true u =
-        let s : key ≡ keyAt ks (getD xs q 0) = eqb-true key (keyAt ks (getD xs q 0)) u in
-        let l = last-here (getD xs q 0) (eqb-true (higher (keyAt ks (getD xs q 0))) (higher key) t) in
-        rw (l, ← s, all-here) (last-snoc corner corner before)
-    last′ q a b true t false u =
-        let o : key ≡ keyAt ks (getD xs q 0) → ⊥ = eqb-false key (keyAt ks (getD xs q 0)) u in
-        let s : higher (keyAt ks (getD xs q 0)) ≡ higher key = eqb-true (higher (keyAt ks (getD xs q 0))) (higher key) t in
-        rw (last-here (getD xs q 0) s, met-other ks xs i (rw long-order h) (keyAt ks (getD xs q 0)) o, none-before q (omega arith) b s o)
-    last′ q a b false t u v =
-        let o : higher (keyAt ks (getD xs q 0)) ≡ higher key → ⊥ = eqb-false (higher (keyAt ks (getD xs q 0))) (higher key) t in
-        rw (last-there (getD xs q 0) o, met-other ks xs i (rw long-order h) (keyAt ks (getD xs q 0)) (λ s. o (ap higher (sym s)))) (m .last q (omega arith) b)
+    order-stays = kept-part (2 * c) c c c w w′ (inl (omega arith)) (omega (arith, m .grouped .long)) kept
 
     words′ : (k : ℕ) → (t : Bool) → eqb key k ≡ t → All (λ (x : ℕ). getD w′ (2 * c + x) 0 ≡ mateWord c x (mateAmong x (met ks xs (i + 1) k))) (met ks xs (i + 1) k)
     words′ k true t = let s : key ≡ k = eqb-true key k t in rw (← s, all-here) (S .words)
@@ -394,13 +397,14 @@ module _ (c i : ℕ) (w : List ℕ) (m : Met c i w) (h : i < c) where
         rw (met-other ks xs i (rw long-order h) k o)
         (all-map (λ (x : ℕ). (keyAt ks x ≡ k) × (M₁ x ≡ mateWord c x (mateAmong x (met ks xs i k)))) (λ (x : ℕ). getD w′ (2 * c + x) 0 ≡ mateWord c x (mateAmong x (met ks xs i k))) (met ks xs i k)
         (λ x p. S .others x (λ j. o (sym (in-all (λ (y : ℕ). keyAt ks y ≡ key) x (before ++ (corner ∷ [])) here-key j) ∙ p .0)) ∙ p .1)
-        (all-both (λ (x : ℕ). keyAt ks x ≡ k) (λ (x : ℕ). M₁ x ≡ mateWord c x (mateAmong x (met ks xs i k))) (met ks xs i k) (met-key ks xs i k) (words₁ k)))
+        (all-both (λ (x : ℕ). keyAt ks x ≡ k) (λ (x : ℕ). M₁ x ≡ mateWord c x (mateAmong x (met ks xs i k))) (met ks xs i k) (met-key ks xs i k) (m .words k)))
 
-    pub met-turn : Met c (i + 1) w′
+    pub met-turn : Met c (i + 1) w′ ls′
     met-turn =
         record {
-          grouped = grouped′;
+          grouped = record { few = m .grouped .few; long = kept .long ∙ m .grouped .long; arranged = rw (keys-stay, order-stays) (m .grouped .arranged) };
           inside = omega arith;
+          fits = rw (keys-stay, length-set ls (higher key) corner) (m .fits);
           seen = rw (keys-stay, order-stays) (λ f b. seen′ f b (eqb (higher (keyAt ks f)) (higher key)) refl);
           last = rw (keys-stay, order-stays) (λ q a b. last′ q a b (eqb (higher (keyAt ks (getD xs q 0))) (higher key)) refl (eqb key (keyAt ks (getD xs q 0))) refl);
           words = rw (keys-stay, order-stays) (λ k. words′ k (eqb key k) refl);
@@ -420,43 +424,40 @@ module _ (c i : ℕ) (w : List ℕ) (m : Met c i w) (h : i < c) where
     met-counted = rw (S .counted) at (count-split (startsMet ks xs i) (S .new) (startsMet ks xs (i + 1)) (λ x. more x (eqb key (keyAt ks x)) refl) (upFrom 0 c))
 
 -- looking up, in the words of the code: v is the higher vertex that it found
-module _ (c i : ℕ) (w : List ℕ) (m : Met c i w) (h : i < c) where
+module _ (c i : ℕ) (w ls : List ℕ) (m : Met c i w ls) (h : i < c) where
   corner-is : getD w (c + i) 0 ≡ cornerAt c w i
   corner-is = corner-read c w (m .grouped) i h
 
   pub place-in : getD w (c + i) 0 < c
-  place-in = rw corner-is (corner-in c i w m h)
+  place-in = rw corner-is (corner-in c i w ls m h)
 
-  key-is : getD w (getD w (c + i) 0) 0 ≡ key c i w m h
+  key-is : getD w (getD w (c + i) 0) 0 ≡ key c i w ls m h
   key-is = key-of c w (m .grouped) (getD w (c + i) 0) place-in ∙ ap (keyAt (part 0 c w)) corner-is
 
   module _ (v : ℕ) (e : v ≡ higher (getD w (getD w (c + i) 0) 0)) where
-    vertex-is : v ≡ higher (key c i w m h)
+    vertex-is : v ≡ higher (key c i w ls m h)
     vertex-is = e ∙ ap higher key-is
 
-    pub look-in : v < c
-    look-in = rw vertex-is (vertex-in c i w m h)
+    pub look-in : v < length ls
+    look-in = rw vertex-is (vertex-in c i w ls m h)
 
-    last-is : getD w (3 * c + v) 0 ≡ lastAt c w (cornerAt c w i)
+    last-is : getD ls v 0 ≡ lastAt c w ls (cornerAt c w i)
     last-is = rw vertex-is
 
-    pub last-in : getD w (3 * c + v) 0 < c
-    last-in = rw last-is (last-below c i w m h)
+    pub last-in : getD ls v 0 < c
+    last-in = rw last-is (last-below c i w ls m h)
 
-    pub look-noted : set w (3 * c + v) (getD w (c + i) 0) ≡ noted c w i
+    pub look-noted : set ls v (getD w (c + i) 0) ≡ noted c w ls i
     look-noted = rw (vertex-is, corner-is)
 
-    -- the note changes no key
-    last-key : getD (set w (3 * c + v) (getD w (c + i) 0)) (getD w (3 * c + v) 0) 0 ≡ keyAt (part 0 c w) (lastAt c w (cornerAt c w i))
-    last-key =
-        getD-set-other w (3 * c + v) (getD w (3 * c + v) 0) (getD w (c + i) 0) 0 (omega (arith, last-in)) ∙
-        key-of c w (m .grouped) (getD w (3 * c + v) 0) last-in ∙ ap (keyAt (part 0 c w)) last-is
+    last-key : getD w (getD ls v 0) 0 ≡ keyAt (part 0 c w) (lastAt c w ls (cornerAt c w i))
+    last-key = key-of c w (m .grouped) (getD ls v 0) last-in ∙ ap (keyAt (part 0 c w)) last-is
 
-    pub look-hit : getD (set w (3 * c + v) (getD w (c + i) 0)) (getD w (3 * c + v) 0) 0 ≡ getD w (getD w (c + i) 0) 0 → getD w (3 * c + v) 0 ≡ lastOf (cornerAt c w i) (earlier c w i)
-    look-hit s = last-is ∙ last-hit c i w m h (sym last-key ∙ s ∙ key-is)
+    pub look-hit : getD w (getD ls v 0) 0 ≡ getD w (getD w (c + i) 0) 0 → getD ls v 0 ≡ lastOf (cornerAt c w i) (earlier c w i)
+    look-hit s = last-is ∙ last-hit c i w ls m h (sym last-key ∙ s ∙ key-is)
 
-    pub look-miss : (getD (set w (3 * c + v) (getD w (c + i) 0)) (getD w (3 * c + v) 0) 0 ≡ getD w (getD w (c + i) 0) 0 → ⊥) → getD w (c + i) 0 ≡ lastOf (cornerAt c w i) (earlier c w i)
-    look-miss o = corner-is ∙ last-miss c i w m h (λ s. o (last-key ∙ s ∙ sym key-is))
+    pub look-miss : (getD w (getD ls v 0) 0 ≡ getD w (getD w (c + i) 0) 0 → ⊥) → getD w (c + i) 0 ≡ lastOf (cornerAt c w i) (earlier c w i)
+    look-miss o = corner-is ∙ last-miss c i w ls m h (λ s. o (last-key ∙ s ∙ sym key-is))
 
 set-word : (c : ℕ) (w : List ℕ) (e v x : ℕ) → 2 * c + e < length w → getD (set w (2 * c + e) v) (2 * c + x) 0 ≡ written (λ (y : ℕ). getD w (2 * c + y) 0) e v x
 set-word c w e v x h = go (eqb x e) refl
@@ -466,12 +467,12 @@ set-word c w e v x h = go (eqb x e) refl
     go false t = getD-set-other w (2 * c + e) (2 * c + x) v 0 (λ s. eqb-false x e t (omega arith))
 
 -- what one corner's meeting leaves
-pub record Turned (c i : ℕ) (w w′ : List ℕ) (r : ℕ) : Type 0 where
-  pub met : Met c (i + 1) w′
-  pub kept : Kept (2 * c) (2 * c) w w′
+pub record Turned (c i : ℕ) (w w′ ls′ : List ℕ) (r : ℕ) : Type 0 where
+  pub met : Met c (i + 1) w′ ls′
+  pub kept : Kept (2 * c) c w w′
   pub counted : count (startsMet (part 0 c w) (part c c w) i) (upFrom 0 c) + r ≡ count (startsMet (part 0 c w) (part c c w) (i + 1)) (upFrom 0 c)
 
-module _ (c i : ℕ) (w : List ℕ) (m : Met c i w) (h : i < c) where
+module _ (c i : ℕ) (w ls : List ℕ) (m : Met c i w ls) (h : i < c) where
   abbrev e : ℕ
   e = cornerAt c w i
 
@@ -482,73 +483,70 @@ module _ (c i : ℕ) (w : List ℕ) (m : Met c i w) (h : i < c) where
   a = lastOf e ys
 
   abbrev M : ℕ → ℕ
-  M = M₁ c i w m h
+  M = M₁ c i w ls m h
 
   -- the corner's own word first
   abbrev w₂ : List ℕ
-  w₂ = set (noted c w i) (2 * c + e) e
+  w₂ = set w (2 * c + e) e
 
   e-in : e < c
-  e-in = corner-in c i w m h
+  e-in = corner-in c i w ls m h
 
   a-in : a < c
-  a-in = all-last (λ (x : ℕ). x < c) e ys e-in (all-front (λ (x : ℕ). x < c) ys (e ∷ []) (here-inside c i w m h))
-
-  noted-long : length (noted c w i) ≡ 4 * c
-  noted-long = length-set w (3 * c + higher (key c i w m h)) e ∙ m .grouped .long
+  a-in = all-last (λ (x : ℕ). x < c) e ys e-in (all-front (λ (x : ℕ). x < c) ys (e ∷ []) (here-inside c i w ls m h))
 
   word₂ : (x : ℕ) → getD w₂ (2 * c + x) 0 ≡ own c e M x
-  word₂ x = set-word c (noted c w i) e e x (omega (arith, e-in, noted-long))
+  word₂ x = set-word c w e e x (omega (arith, e-in, m .grouped .long))
 
-  kept₂ : Kept (2 * c) c (noted c w i) w₂
-  kept₂ = kept-set (2 * c) c (noted c w i) (noted c w i) (2 * c + e) e (omega arith) (omega (arith, e-in)) (kept-none (2 * c) c (noted c w i))
+  kept₂ : Kept (2 * c) c w w₂
+  kept₂ = kept-set (2 * c) c w w (2 * c + e) e (omega arith) (omega (arith, e-in)) (kept-none (2 * c) c w)
 
   -- one word more
-  module _ (w′ : List ℕ) (N : ℕ → ℕ) (k : Kept (2 * c) c (noted c w i) w′) (q : (x : ℕ) → getD w′ (2 * c + x) 0 ≡ N x) (f v : ℕ) (b : f < c) where
-    more-kept : Kept (2 * c) c (noted c w i) (set w′ (2 * c + f) v)
-    more-kept = kept-set (2 * c) c (noted c w i) w′ (2 * c + f) v (omega arith) (omega arith) k
+  module _ (w′ : List ℕ) (N : ℕ → ℕ) (k : Kept (2 * c) c w w′) (q : (x : ℕ) → getD w′ (2 * c + x) 0 ≡ N x) (f v : ℕ) (b : f < c) where
+    more-kept : Kept (2 * c) c w (set w′ (2 * c + f) v)
+    more-kept = kept-set (2 * c) c w w′ (2 * c + f) v (omega arith) (omega arith) k
 
     more-word : (x : ℕ) → getD (set w′ (2 * c + f) v) (2 * c + x) 0 ≡ written N f v x
-    more-word x = set-word c w′ f v x (omega (arith, k .long, noted-long)) ∙ ap (λ (y : ℕ). cond (eqb x f) v y) (q x)
+    more-word x = set-word c w′ f v x (omega (arith, k .long, m .grouped .long)) ∙ ap (λ (y : ℕ). cond (eqb x f) v y) (q x)
 
-  turned : (w′ : List ℕ) (N : ℕ → ℕ) (r : ℕ) → Kept (2 * c) c (noted c w i) w′ → ((x : ℕ) → getD w′ (2 * c + x) 0 ≡ N x) → Settled c e ys M N r → Turned c i w w′ r
+  turned : (w′ : List ℕ) (N : ℕ → ℕ) (r : ℕ) → Kept (2 * c) c w w′ → ((x : ℕ) → getD w′ (2 * c + x) 0 ≡ N x) → Settled c e ys M N r → Turned c i w w′ (noted c w ls i) r
   turned w′ N r k q S =
       let T = settled-same c e ys M N (λ (x : ℕ). getD w′ (2 * c + x) 0) r q S in
       record {
-        met = met-turn c i w m h w′ r k T;
-        kept = kept-both c i w m h w′ r k T;
-        counted = met-counted c i w m h w′ r k T;
+        met = met-turn c i w ls m h w′ r k T;
+        kept = k;
+        counted = met-counted c i w ls m h w′ r k T;
       }
 
   abbrev wj : List ℕ
   wj = set w₂ (2 * c + e) c
 
-  joined-kept : Kept (2 * c) c (noted c w i) wj
+  joined-kept : Kept (2 * c) c w wj
   joined-kept = more-kept w₂ (own c e M) kept₂ word₂ e c e-in
 
   joined-word : (x : ℕ) → getD wj (2 * c + x) 0 ≡ joined c e M x
   joined-word = more-word w₂ (own c e M) kept₂ word₂ e c e-in
 
-  pub turned-pair : getD w₂ (2 * c + a) 0 ≡ a → Turned c i w (set (set w₂ (2 * c + e) a) (2 * c + a) e) 0
+  pub turned-pair : getD w₂ (2 * c + a) 0 ≡ a → Turned c i w (set (set w₂ (2 * c + e) a) (2 * c + a) e) (noted c w ls i) 0
   turned-pair s =
       let k = more-kept w₂ (own c e M) kept₂ word₂ e a e-in in
       let q = more-word w₂ (own c e M) kept₂ word₂ e a e-in in
       turned (set (set w₂ (2 * c + e) a) (2 * c + a) e) (paired c e M a) 0
       (more-kept (set w₂ (2 * c + e) a) (written (own c e M) e a) k q a e a-in)
       (more-word (set w₂ (2 * c + e) a) (written (own c e M) e a) k q a e a-in)
-      (settle-pair c e M ys (here-rises c i w m h) (here-inside c i w m h) (before-words c i w m h) (sym (word₂ a) ∙ s))
+      (settle-pair c e M ys (here-rises c i w ls m h) (here-inside c i w ls m h) (before-words c i w ls m h) (sym (word₂ a) ∙ s))
 
-  pub turned-join : (getD w₂ (2 * c + a) 0 ≡ a → ⊥) → getD w₂ (2 * c + a) 0 ≡ c → Turned c i w wj 0
+  pub turned-join : (getD w₂ (2 * c + a) 0 ≡ a → ⊥) → getD w₂ (2 * c + a) 0 ≡ c → Turned c i w wj (noted c w ls i) 0
   turned-join o s =
       turned wj (joined c e M) 0 joined-kept joined-word
-      (settle-join c e M ys (here-rises c i w m h) (here-inside c i w m h) (before-words c i w m h) (λ t. o (word₂ a ∙ t)) (sym (word₂ a) ∙ s))
+      (settle-join c e M ys (here-rises c i w ls m h) (here-inside c i w ls m h) (before-words c i w ls m h) (λ t. o (word₂ a ∙ t)) (sym (word₂ a) ∙ s))
 
   crowd : (getD w₂ (2 * c + a) 0 ≡ a → ⊥) → (getD w₂ (2 * c + a) 0 ≡ c → ⊥) → (getD w₂ (2 * c + a) 0 < c) × Settled c e ys M (crowded c e M a (getD w₂ (2 * c + a) 0)) 1
   crowd o u =
       rw (word₂ a)
-      (settle-crowd c e M ys (here-rises c i w m h) (here-inside c i w m h) (before-words c i w m h) (λ t. o (word₂ a ∙ t)) (λ t. u (word₂ a ∙ t)))
+      (settle-crowd c e M ys (here-rises c i w ls m h) (here-inside c i w ls m h) (before-words c i w ls m h) (λ t. o (word₂ a ∙ t)) (λ t. u (word₂ a ∙ t)))
 
-  pub turned-crowd : (getD w₂ (2 * c + a) 0 ≡ a → ⊥) → (getD w₂ (2 * c + a) 0 ≡ c → ⊥) → (getD w₂ (2 * c + a) 0 < c) × Turned c i w (set (set wj (2 * c + a) c) (2 * c + getD w₂ (2 * c + a) 0) c) 1
+  pub turned-crowd : (getD w₂ (2 * c + a) 0 ≡ a → ⊥) → (getD w₂ (2 * c + a) 0 ≡ c → ⊥) → (getD w₂ (2 * c + a) 0 < c) × Turned c i w (set (set wj (2 * c + a) c) (2 * c + getD w₂ (2 * c + a) 0) c) (noted c w ls i) 1
   turned-crowd o u =
       let t = crowd o u in
       let b = getD w₂ (2 * c + a) 0 in
@@ -561,46 +559,43 @@ module _ (c i : ℕ) (w : List ℕ) (m : Met c i w) (h : i < c) where
             (t .1),
       )
 
--- the same in the words of the code: a is the corner that it found, v the work with the note
-module _ (c i : ℕ) (w : List ℕ) (m : Met c i w) (h : i < c) (a : ℕ) (v : List ℕ) (p : a ≡ lastOf (cornerAt c w i) (earlier c w i)) (q : v ≡ noted c w i) where
+-- the same in the words of the code: a is the corner that it found, v the table with the note
+module _ (c i : ℕ) (w ls : List ℕ) (m : Met c i w ls) (h : i < c) (a : ℕ) (v : List ℕ) (p : a ≡ lastOf (cornerAt c w i) (earlier c w i)) (q : v ≡ noted c w ls i) where
   abbrev e₁ : ℕ
   e₁ = getD w (c + i) 0
 
   abbrev v₁ : List ℕ
-  v₁ = set v (2 * c + e₁) e₁
+  v₁ = set w (2 * c + e₁) e₁
 
   pub found-in : a < c
-  found-in = rw p (a-in c i w m h)
+  found-in = rw p (a-in c i w ls m h)
 
-  pub found-long : length v ≡ 4 * c
-  found-long = rw q (noted-long c i w m h)
+  pub pair-turn : getD v₁ (2 * c + a) 0 ≡ a → Turned c i w (set (set v₁ (2 * c + e₁) a) (2 * c + a) e₁) v 0
+  pair-turn = rw (corner-is c i w ls m h, p, q) (turned-pair c i w ls m h)
 
-  pub pair-turn : getD v₁ (2 * c + a) 0 ≡ a → Turned c i w (set (set v₁ (2 * c + e₁) a) (2 * c + a) e₁) 0
-  pair-turn = rw (corner-is c i w m h, p, q) (turned-pair c i w m h)
+  pub join-turn : (getD v₁ (2 * c + a) 0 ≡ a → ⊥) → getD v₁ (2 * c + a) 0 ≡ c → Turned c i w (set v₁ (2 * c + e₁) c) v 0
+  join-turn = rw (corner-is c i w ls m h, p, q) (turned-join c i w ls m h)
 
-  pub join-turn : (getD v₁ (2 * c + a) 0 ≡ a → ⊥) → getD v₁ (2 * c + a) 0 ≡ c → Turned c i w (set v₁ (2 * c + e₁) c) 0
-  join-turn = rw (corner-is c i w m h, p, q) (turned-join c i w m h)
-
-  pub crowd-turn : (getD v₁ (2 * c + a) 0 ≡ a → ⊥) → (getD v₁ (2 * c + a) 0 ≡ c → ⊥) → (getD v₁ (2 * c + a) 0 < c) × Turned c i w (set (set (set v₁ (2 * c + e₁) c) (2 * c + a) c) (2 * c + getD v₁ (2 * c + a) 0) c) 1
-  crowd-turn = rw (corner-is c i w m h, p, q) (turned-crowd c i w m h)
+  pub crowd-turn : (getD v₁ (2 * c + a) 0 ≡ a → ⊥) → (getD v₁ (2 * c + a) 0 ≡ c → ⊥) → (getD v₁ (2 * c + a) 0 < c) × Turned c i w (set (set (set v₁ (2 * c + e₁) c) (2 * c + a) c) (2 * c + getD v₁ (2 * c + a) 0) c) v 1
+  crowd-turn = rw (corner-is c i w ls m h, p, q) (turned-crowd c i w ls m h)
 
 -- corner after corner
-pub record Meeting (c : ℕ) (w₀ w : List ℕ) (i s : ℕ) : Type 0 where
-  pub met : Met c i w
-  pub kept : Kept (2 * c) (2 * c) w₀ w
+pub record Meeting (c : ℕ) (w₀ w ls : List ℕ) (i s : ℕ) : Type 0 where
+  pub met : Met c i w ls
+  pub kept : Kept (2 * c) c w₀ w
   pub counted : count (startsMet (part 0 c w₀) (part c c w₀) i) (upFrom 0 c) ≡ s
 
-pub meeting-none : (c : ℕ) (w : List ℕ) → Met c 0 w → Meeting c w w 0 0
-meeting-none c w m = record { met = m; kept = kept-none (2 * c) (2 * c) w; counted = none-new c }
+pub meeting-none : (c : ℕ) (w ls : List ℕ) → Met c 0 w ls → Meeting c w w ls 0 0
+meeting-none c w ls m = record { met = m; kept = kept-none (2 * c) c w; counted = none-new c }
 
-module _ (c : ℕ) (w₀ w : List ℕ) (i s : ℕ) (P : Meeting c w₀ w i s) where
-  pub meeting-turn : (w′ : List ℕ) (r : ℕ) → Turned c i w w′ r → Meeting c w₀ w′ (i + 1) (s + r)
-  meeting-turn w′ r T =
+module _ (c : ℕ) (w₀ w ls : List ℕ) (i s : ℕ) (P : Meeting c w₀ w ls i s) where
+  pub meeting-turn : (w′ ls′ : List ℕ) (r : ℕ) → Turned c i w w′ ls′ r → Meeting c w₀ w′ ls′ (i + 1) (s + r)
+  meeting-turn w′ ls′ r T =
       let l : length w₀ ≡ 4 * c = sym (P .kept .long) ∙ P .met .grouped .long in
       record {
         met = T .met;
-        kept = kept-trans (2 * c) (2 * c) w₀ w w′ (P .kept) (T .kept);
-        counted = omega (arith, P .counted, rw (kept-part (2 * c) (2 * c) 0 c w₀ w (inl (omega arith)) (omega arith) (P .kept), kept-part (2 * c) (2 * c) c c w₀ w (inl (omega arith)) (omega arith) (P .kept)) at (T .counted));
+        kept = kept-trans (2 * c) c w₀ w w′ (P .kept) (T .kept);
+        counted = omega (arith, P .counted, rw (kept-part (2 * c) c 0 c w₀ w (inl (omega arith)) (omega arith) (P .kept), kept-part (2 * c) c c c w₀ w (inl (omega arith)) (omega arith) (P .kept)) at (T .counted));
       }
 
   pub meeting-few : s ≤ c
@@ -612,10 +607,10 @@ module _ (c : ℕ) (w₀ w : List ℕ) (i s : ℕ) (P : Meeting c w₀ w i s) wh
     long₀ = sym (P .kept .long) ∙ P .met .grouped .long
 
     keys₀ : part 0 c w ≡ part 0 c w₀
-    keys₀ = kept-part (2 * c) (2 * c) 0 c w₀ w (inl (omega arith)) (omega (arith, long₀)) (P .kept)
+    keys₀ = kept-part (2 * c) c 0 c w₀ w (inl (omega arith)) (omega (arith, long₀)) (P .kept)
 
     order₀ : part c c w ≡ part c c w₀
-    order₀ = kept-part (2 * c) (2 * c) c c w₀ w (inl (omega arith)) (omega (arith, long₀)) (P .kept)
+    order₀ = kept-part (2 * c) c c c w₀ w (inl (omega arith)) (omega (arith, long₀)) (P .kept)
 
     all-met : (e : ℕ) → met (part 0 c w) (part c c w) i (keyAt (part 0 c w) e) ≡ sameKey (part 0 c w) e
     all-met e =
@@ -637,25 +632,17 @@ module _ (c : ℕ) (w₀ w : List ℕ) (i s : ℕ) (P : Meeting c w₀ w i s) wh
         (choose-same (startsMet (part 0 c w₀) (part c c w₀) i) (startsBy (part 0 c w₀)) (upFrom 0 c)
         (all-in (λ (e : ℕ). startsMet (part 0 c w₀) (part c c w₀) i e ≡ startsBy (part 0 c w₀) e) (upFrom 0 c) (λ e q. rw (keys₀, order₀) at (ap (startsMany e) (all-met e)))))
 
--- none has met: every vertex has the order's first corner
-module _ (c n : ℕ) (w w′ : List ℕ) (g : Grouped c w) (b : n ≤ c) (v : KeysBelow c n w) (h : 0 < c) (k : Kept (3 * c) n w w′) (f : part (3 * c) n w′ ≡ replicate n (getD w c 0)) where
-  pub first-keys : part 0 c w′ ≡ part 0 c w
-  first-keys = kept-part (3 * c) n 0 c w w′ (inl (omega arith)) (omega (arith, g .long)) k
-
-  first-order : part c c w′ ≡ part c c w
-  first-order = kept-part (3 * c) n c c w w′ (inl (omega arith)) (omega (arith, g .long)) k
-
-  first-seen : (e : ℕ) → e < c → getD (part c c w) 0 0 ≡ getD w′ (3 * c + higher (keyAt (part 0 c w) e)) 0
-  first-seen e q =
-      let l : higher (keyAt (part 0 c w) e) < n = rw (← key-of c w g e q) (v e q .1) in
-      sym (sym (getD-part (3 * c) n w′ (higher (keyAt (part 0 c w) e)) l) ∙ ap (λ (xs : List ℕ). getD xs (higher (keyAt (part 0 c w) e)) 0) f ∙ getD-replicate n (higher (keyAt (part 0 c w) e)) (getD w c 0) 0 l ∙ sym (getD-part c c w 0 h ∙ rw add-zero))
-
-  pub first-met : Met c 0 w′
-  first-met =
-      record {
-        grouped = record { few = g .few; long = k .long ∙ g .long; fits = rw first-keys (g .fits); arranged = rw (first-keys, first-order) (g .arranged) };
-        inside = omega arith;
-        seen = λ e q. (0, omega arith, rw (first-keys, first-order) (first-seen e q));
-        last = λ q a d. refl;
-        words = λ x. tt;
-      }
+-- none has met: every vertex has 0
+pub none-met : (c n m : ℕ) (w : List ℕ) → Grouped c w → KeysBelow c n w → n ≤ m → Met c 0 w (replicate m 0)
+none-met c n m w g v h =
+    record {
+      grouped = g;
+      inside = omega arith;
+      fits = λ e q. rw length-replicate (below e q);
+      seen = λ e q. inl (getD-replicate m (higher (keyAt (part 0 c w) e)) 0 0 (below e q));
+      last = λ q a d. refl;
+      words = λ x. tt;
+    }
+  where
+    below : (e : ℕ) → e < c → higher (keyAt (part 0 c w) e) < m
+    below e q = rw (← key-of c w g e q) (omega (arith, v e q .1))

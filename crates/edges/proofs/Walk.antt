@@ -18,11 +18,11 @@ use Rattle.list.specs.declared.Cursor.{Cursor}
 use Rattle.list.proofs.Runs.{Stepped}
 use Rattle.list.proofs.Repeats.{vertices-long}
 use Rattle.edges.specs.Uses.{Use, usesOfFace, usesFrom, uses}
-use Rattle.edges.specs.Sort.{part, Kept}
-use Rattle.edges.specs.Words.{CornersWritten}
+use Rattle.edges.specs.Sort.{keyOf, part}
+use Rattle.edges.specs.Words.{cornerOf, FaceWritten}
 use Rattle.edges.proofs.Lists.{map-append}
-use Rattle.edges.proofs.Uses.{uses-long, uses-face-long, from-face}
-use Rattle.edges.proofs.Parts.{part-add, kept-part, kept-trans, kept-wider}
+use Rattle.edges.proofs.Uses.{uses-long, uses-face-long}
+use Rattle.edges.proofs.Parts.{part-add, kept-part}
 
 pub record Walking (n : ℕ) (l : List ℤ) (i at : ℕ) : Type 0 where
   pub total : at + length (usesFrom at (runs (drop i l))) ≡ length (uses l)
@@ -107,41 +107,30 @@ corners-few (x ∷ xs) = go (isEnd x) (corners-few xs)
 pub few-corners : (l : List ℤ) (n : ℕ) → Valid l n → length (uses l) ≤ maxEntries
 few-corners l n v = omega (arith, uses-long l, corners-few l, v .few-entries)
 
--- the next corners and the vertices, in two blocks of c words
-
-abbrev pub next-of : Use → ℕ
-next-of u = u .next
-
-abbrev pub from-of : Use → ℕ
-from-of u = u .from
+-- the keys and the corners' words, in two blocks of c words
 
 pub record Wording (l : List ℤ) (c i at : ℕ) (w₀ w : List ℕ) : Type 0 where
   pub walking : Walking maxVertices l i at
-  pub nexts : Written next-of 0 l i at w
-  pub froms : Written from-of c l i at w
-  pub kept : Kept 0 (2 * c) w₀ w
+  pub keys : Written keyOf 0 l i at w
+  pub words : Written cornerOf (3 * c) l i at w
+  pub long : length w ≡ length w₀
 
-module _ (l : List ℤ) (c i at s e : ℕ) (cur : Cursor) (t : Stepped l i s e cur) (w₀ w w₂ : List ℕ) (O : Wording l c i at w₀ w) (u : length (uses l) ≡ c) (fits : 2 * c ≤ length w₀) where
+module _ (l : List ℤ) (c i at s e : ℕ) (cur : Cursor) (t : Stepped l i s e cur) (w₀ w w₂ : List ℕ) (O : Wording l c i at w₀ w) (u : length (uses l) ≡ c) (fits : 4 * c ≤ length w₀) where
   abbrev f : List ℤ
   f = take (e - s) (drop s l)
 
-  pub wording-turn : CornersWritten c at f w w₂ → Wording l c (cur .at) (at + (e - s)) w₀ w₂
-  wording-turn C =
+  pub wording-turn : FaceWritten c at f w w₂ → Wording l c (cur .at) (at + (e - s)) w₀ w₂
+  wording-turn F =
       let W = O .walking in
-      let w₁ = C .between in
-      let n₁ = C .nexts in
-      let k₁ = C .nexts-kept in
-      let n₂ = C .froms in
-      let k₂ = C .froms-kept in
+      let w₁ = F .between in
+      let k₁ = F .keys-kept in
+      let k₂ = F .words-kept in
       record {
         walking = walking-next maxVertices l i at s e cur t W;
-        nexts = written-next maxVertices l i at s e cur t W next-of 0 w w₂ (kept-part (c + at) (length f) 0 at w₁ w₂ (inl (omega arith)) (omega (arith, within, k₁ .long)) k₂ ∙ kept-part at (length f) 0 at w w₁ (inl (omega arith)) (omega (arith, within)) k₁) (rw zero-add (kept-part (c + at) (length f) at (length f) w₁ w₂ (inl (omega (arith, room))) (omega (arith, room, within, k₁ .long)) k₂ ∙ n₁)) (O .nexts);
-        froms = written-next maxVertices l i at s e cur t W from-of c w w₂ (kept-part (c + at) (length f) c at w₁ w₂ (inl (omega arith)) (omega (arith, room, within, k₁ .long)) k₂ ∙ kept-part at (length f) c at w w₁ (inr (omega (arith, room))) (omega (arith, room, within)) k₁) (n₂ ∙ sym (from-face at (vertices f))) (O .froms);
-        kept = kept-trans 0 (2 * c) w₀ w w₂ (O .kept) (kept-trans 0 (2 * c) w w₁ w₂ (kept-wider at (length f) 0 (2 * c) w w₁ (omega arith) (omega (arith, room)) k₁) (kept-wider (c + at) (length f) 0 (2 * c) w₁ w₂ (omega arith) (omega (arith, room)) k₂));
+        keys = written-next maxVertices l i at s e cur t W keyOf 0 w w₂ (kept-part (3 * c + at) (length f) 0 at w₁ w₂ (inl (omega arith)) (omega (arith, room, O .long, k₁ .long)) k₂ ∙ kept-part at (length f) 0 at w w₁ (inl (omega arith)) (omega (arith, room, O .long)) k₁) (rw zero-add (kept-part (3 * c + at) (length f) at (length f) w₁ w₂ (inl (omega (arith, room))) (omega (arith, room, O .long, k₁ .long)) k₂ ∙ F .keys)) (O .keys);
+        words = written-next maxVertices l i at s e cur t W cornerOf (3 * c) w w₂ (kept-part (3 * c + at) (length f) (3 * c) at w₁ w₂ (inl (omega arith)) (omega (arith, room, O .long, k₁ .long)) k₂ ∙ kept-part at (length f) (3 * c) at w w₁ (inr (omega (arith, room))) (omega (arith, room, O .long)) k₁) (F .words) (O .words);
+        long = k₂ .long ∙ k₁ .long ∙ O .long;
       }
     where
       room : at + length f ≤ c
       room = omega (arith, t .long, u, walking-room maxVertices l i at s e cur t (O .walking))
-
-      within : (2 * c ≤ length w) × (at ≤ c)
-      within = (omega (arith, O .kept .long), omega (arith, room))

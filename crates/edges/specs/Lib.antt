@@ -2,6 +2,5 @@ pub mod Choose
 pub mod Uses
 pub mod Table
 pub mod Sort
-pub mod Runs
 pub mod Matching
 pub mod Words

@@ -1,15 +1,14 @@
-// One face, handed on as the part of the list that starts where the face starts: its edges' keys, and its corners' words in the
-// edge table. `at` is the number of its first corner.
+// One face, handed on as the part of the list that starts where the face starts: its edges' keys, and its corners' words. `at` is
+// the number of its first corner.
 use list::IndexList;
 ghost use mathlib.Core.Path.{_≡_};
-ghost use mathlib.Core.List.{map};
 ghost use Prim.Native.Nat.{ℕ, _+_, _*_, _≤_, _<_};
 ghost use lib.ListN.{length, getD};
 ghost use Rattle.list.specs.Limits.{maxEntries, maxVertices};
 ghost use Rattle.list.specs.Faces.{vertices};
 ghost use Rattle.edges.specs.Uses.{usesOfFace, usesOn, nextIn, isEdge};
-ghost use Rattle.edges.specs.Sort.{pairKey, keyOf, part, Kept};
-ghost use Rattle.edges.specs.Words.{CornersWritten};
+ghost use Rattle.edges.specs.Sort.{pairKey};
+ghost use Rattle.edges.specs.Words.{cornerWord, FaceWritten};
 
 // The place that follows place i in a face of m corners: after the last the first.
 fn next_in(m: usize, i: usize) -> usize
@@ -33,35 +32,30 @@ fn key(a: usize, b: usize) -> u32
     (b * IndexList::MAX_VERTICES + a) as u32
 }
 
-// The keys of the face's edges.
-pub fn write_keys(face: &[i32], work: &mut [u32], at: usize)
-    requires { ⌜ (at + length (now face) ≤ length (now work)) × ((i : ℕ) → i < length (now face) → getD (vertices (now face)) i 0 < maxVertices) ⌝ }
-    ensures written { λ _. ⌜ part at (length (now (face .entry))) (now (work .exit)) ≡ map keyOf (usesOfFace at (vertices (now (face .entry)))) ⌝ }
-    ensures kept { λ _. ⌜ Kept at (length (now (face .entry))) (now (work .entry)) (now (work .exit)) ⌝ }
+// One word for a corner: its next corner and its vertex.
+fn corner(next: usize, from: usize) -> u32
+    requires { ⌜ (next < maxEntries) × (from < maxVertices) ⌝ }
+    ensures { λ r. ⌜ r ≡ cornerWord next from ⌝ }
+{
+    (next * IndexList::MAX_VERTICES + from) as u32
+}
+
+// The keys of the face's edges, in the first block of c words, and its corners' words, in the fourth.
+pub fn write_words(face: &[i32], work: &mut [u32], c: usize, at: usize)
+    requires { ⌜ (at + length (now face) ≤ c) × (c ≤ maxEntries) × (4 * c ≤ length (now work)) ⌝ }
+    requires { ⌜ ((i : ℕ) → i < length (now face) → getD (vertices (now face)) i 0 < maxVertices) ⌝ }
+    ensures { λ _. ⌜ FaceWritten c at (now (face .entry)) (now (work .entry)) (now (work .exit)) ⌝ }
 {
     let m = face.len();
+    let words = 3 * c + at;
     let mut from = list::vertex_at(face, 0);
     let mut i = 0;
     while i < m {
-        let to = list::vertex_at(face, next_in(m, i));
+        let j = next_in(m, i);
+        let to = list::vertex_at(face, j);
         work[at + i] = key(from, to);
+        work[words + i] = corner(at + j, from);
         from = to;
-        i += 1;
-    }
-}
-
-// The next corners of the face's corners and their vertices, in two blocks of c words.
-pub fn write_corners(face: &[i32], work: &mut [u32], c: usize, at: usize)
-    requires { ⌜ (at + length (now face) ≤ c) × (c ≤ maxEntries) × (2 * c ≤ length (now work)) ⌝ }
-    requires { ⌜ ((i : ℕ) → i < length (now face) → getD (vertices (now face)) i 0 < maxVertices) ⌝ }
-    ensures { λ _. ⌜ CornersWritten c at (now (face .entry)) (now (work .entry)) (now (work .exit)) ⌝ }
-{
-    let m = face.len();
-    let to = c + at;
-    let mut i = 0;
-    while i < m {
-        work[at + i] = (at + next_in(m, i)) as u32;
-        work[to + i] = list::vertex_at(face, i) as u32;
         i += 1;
     }
 }

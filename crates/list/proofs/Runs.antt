@@ -1,6 +1,6 @@
 -- Laws of runs and of the cursor's steps: what a list is from one position on.
 use Prim.Native.Nat.{ℕ, zero, suc, _+_, _-_, _≤_, _<_}
-use mathlib.Core.Path.{_≡_, refl, sym, _∙_, ap₂, subst₃}
+use mathlib.Core.Path.{_≡_, refl, sym, _∙_, ap, ap₂, subst₃}
 use mathlib.Core.Bool.{Bool, true, false, cond}
 use mathlib.Core.List.{List, [], _∷_, _++_}
 use native.Mathlib.Numerals.{add-one}
@@ -9,9 +9,9 @@ use lib.IntN.{ℤ, pos, negsuc}
 use native.Mathlib.Nat.{add-suc, add-sub-cancel-left}
 use native.Mathlib.Decide.{decLt}
 use lib.ListN.{length, getD, take, drop, length-drop, drop-of-length-le}
-use lib.Seq.{drop-cons, drop-drop, length-take-le}
-use Rattle.list.specs.Faces.{isEnd, runLength, runs, push, Face, facesFrom, stepAt}
-use Rattle.list.proofs.First.{first-fits}
+use lib.Seq.{drop-cons, drop-drop, length-take-le, getD-take}
+use Rattle.list.specs.Faces.{isEnd, runLength, NoEnd, runs, push, Face, facesFrom, stepAt}
+use Rattle.list.proofs.First.{first-fits, first-before}
 use Rattle.list.specs.declared.Cursor.{Cursor}
 use Rattle.list.specs.declared.Step.{Step}
 use Rattle.list.specs.declared.Step.the-variants as Step·
@@ -96,3 +96,11 @@ faces-split l i s e c t =
   where
     then : i + length (take (e - s) (drop s l)) + 1 ≡ c .at
     then = omega (arith, t .here, t .start, t .order, t .next, t .long)
+
+-- the face at the cursor ends before its -1
+pub stepped-no-end : (l : List ℤ) (i s e : ℕ) (c : Cursor) → Stepped l i s e c → NoEnd (take (e - s) (drop s l))
+stepped-no-end l i s e c t j h =
+    let k : j < e - s = omega (arith, t .long) in
+    let same : drop i l ≡ drop s l = rw (t .start) in
+    let q : j < runLength (drop s l) = omega (arith, t .run, ap runLength same) in
+    ap isEnd (getD-take (e - s) (drop s l) j (pos 0) k) ∙ first-before isEnd (drop s l) j q

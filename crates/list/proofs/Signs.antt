@@ -24,13 +24,13 @@ end-bits (negsuc zero) f = refl
 end-bits (negsuc (suc k)) f = ne-eqb (2 ^ 32 - suc (suc k)) 4294967295 (omega arith)
 
 module _ (z : ℤ) (f : mag z < 2 ^ 31) where
-  pub outside-negative : (n : ℕ) → ltZ (toZ w32 (ofZ w32 z)) (pos 0) ≡ true → ltZ (toZ w32 (ofZ w32 z)) (negsuc 0) ≡ outside n z
-  outside-negative n = rw (read-back z f) (go z)
+  pub outside-negative : (n : ℕ) → isEnd z ≡ false → ltZ (toZ w32 (ofZ w32 z)) (pos 0) ≡ true → true ≡ outside n z
+  outside-negative n q = rw (read-back z f) (go z q)
     where
-      go : (z : ℤ) → ltZ z (pos 0) ≡ true → ltZ z (negsuc 0) ≡ outside n z
-      go (pos k) h = absurd (omega (arith, ltb-true k 0 h))
-      go (negsuc zero) h = refl
-      go (negsuc (suc k)) h = lt-ltb 0 (suc k) (omega arith)
+      go : (z : ℤ) → isEnd z ≡ false → ltZ z (pos 0) ≡ true → true ≡ outside n z
+      go (pos k) q h = absurd (omega (arith, ltb-true k 0 h))
+      go (negsuc zero) q h = absurd (true≢false q)
+      go (negsuc (suc k)) q h = refl
 
   pub outside-natural : (n : ℕ) → ltZ (toZ w32 (ofZ w32 z)) (pos 0) ≡ false → leb n (natAbs (toZ w32 (ofZ w32 z))) ≡ outside n z
   outside-natural n = rw (read-back z f) (go z)

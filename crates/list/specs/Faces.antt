@@ -4,6 +4,7 @@
 --   runs l           the runs between entries of -1; a last run counts only if it isn't empty
 --   firstWhere p l   the place of the first entry that p holds of; l's length if there is none
 --   runLength l      the number of entries before the first -1
+--   NoEnd r          no entry of r is -1
 --   Face             where a face starts, as a position among all entries, and its entries without its -1
 --   faces l          the faces of l, numbered from 0 in list order
 --   corners l        the entries other than -1, in list order
@@ -12,11 +13,12 @@
 --   stepAt l i       what the cursor at position i answers: the face that starts there with the next cursor, or the end
 --   rejoined rs e    the runs rs put together again with a -1 behind each, behind the last one only if e says so
 --   endsClosed l     the last entry of l is -1
-use Prim.Native.Nat.{ℕ, zero, suc, _+_}
+use Prim.Native.Nat.{ℕ, zero, suc, _+_, _<_}
+use mathlib.Core.Path.{_≡_}
 use mathlib.Core.List.{List, [], _∷_, _++_, map}
 use mathlib.Core.Bool.{Bool, true, false, cond}
 use lib.IntN.{ℤ, pos, negsuc}
-use lib.ListN.{length, drop}
+use lib.ListN.{length, getD, drop}
 use Rattle.list.specs.declared.Cursor.{Cursor}
 use Rattle.list.specs.declared.Step.{Step}
 use Rattle.list.specs.declared.Step.the-variants as Step·
@@ -41,6 +43,9 @@ firstWhere p (x ∷ xs) = let later = firstWhere p xs in cond (p x) 0 (suc later
 
 abbrev pub runLength : List ℤ → ℕ
 runLength l = firstWhere isEnd l
+
+abbrev pub NoEnd : List ℤ → Type 0
+NoEnd r = (i : ℕ) → i < length r → isEnd (getD r i (pos 0)) ≡ false
 
 pub record Face : Type 0 where
   pub start : ℕ

@@ -1,5 +1,6 @@
 // Signed entries, read at a position of a list. These functions and `vertex_at` alone look at an entry's sign.
 ghost use mathlib.Core.Path.{_≡_};
+ghost use mathlib.Core.Bool.{false};
 ghost use Prim.Native.Nat.{_+_, _<_};
 ghost use lib.ListN.{length, getD, drop};
 ghost use lib.IntN.{pos};
@@ -13,13 +14,14 @@ pub fn end_at(l: &[i32], i: usize) -> bool
     l[i] == -1
 }
 
+// Whether the entry at i, which is not -1, is below -1 or at least n.
 pub fn outside_at(l: &[i32], i: usize, n: usize) -> bool
-    requires { ⌜ i < length (now l) ⌝ }
+    requires { ⌜ (i < length (now l)) × (isEnd (getD (now l) i (pos 0)) ≡ false) ⌝ }
     ensures { λ r. ⌜ r ≡ outside n (getD (now (l .entry)) i (pos 0)) ⌝ }
 {
     let x = l[i];
     if x < 0 {
-        return x < -1;
+        return true;
     }
     n <= x as usize
 }

@@ -1,7 +1,7 @@
 // The rules that a face is held to. Each takes one face as a part of the list that starts in its middle.
 ghost use mathlib.Core.Path.{_≡_};
 ghost use lib.ListN.{length, replicate};
-ghost use Rattle.list.specs.Faces.{vertices, firstWhere};
+ghost use Rattle.list.specs.Faces.{NoEnd, vertices, firstWhere};
 ghost use Rattle.list.specs.Check.{isVertex, firstOutside, firstRepeat, faceFault};
 ghost use Rattle.list.specs.Flags.{Flags, Clear, Marked, marked, seenTo};
 use crate::FaceFault;
@@ -12,6 +12,7 @@ const SHORT_FACE: usize = 5;
 
 // The place in the face of its first entry below -1 or at least n; the face's length if there is none.
 pub fn first_outside(face: &[i32], n: usize) -> usize
+    requires { ⌜ NoEnd (now face) ⌝ }
     ensures { λ r. ⌜ r ≡ firstOutside n (now (face .entry)) ⌝ }
 {
     let mut i = 0;
@@ -107,7 +108,7 @@ pub fn first_repeat(face: &[i32], flags: &mut [u8]) -> usize
 
 // The face's first fault: an entry outside, then too few entries, then a repeat. The flags are 0 before and afterwards.
 pub fn face_fault(face: &[i32], n: usize, flags: &mut [u8]) -> FaceFault
-    requires { ⌜ Flags n (now flags) ⌝ }
+    requires { ⌜ NoEnd (now face) × Flags n (now flags) ⌝ }
     ensures { λ r. ⌜ (r ≡ faceFault n (now (face .entry))) × (now (flags .exit) ≡ now (flags .entry)) ⌝ }
 {
     let out = first_outside(face, n);

@@ -9,13 +9,13 @@ array-borrow-prefix-marks : tie.Need-array-borrow-prefix-marks
 array-borrow-prefix-marks c = search needs
 
 slice-aggregate-cut-marked : tie.Need-slice-aggregate-cut-marked
-slice-aggregate-cut-marked c = let z = c .before .before .before .before .before .before in lent-long (z .args .n) 2048 (c .before .before .before .before .if1 .taken)
+slice-aggregate-cut-marked c = let z = c .before .before .before .before .before .before in lent-long (z .args .n) _ (c .before .before .before .before .if1 .taken)
 
 cut-marked-requires : tie.Need-cut-marked-requires
 cut-marked-requires c κs =
     let z = c .before .before .before .before .before .before in
-    let m = lent-marks (z .args .n) 2048 (c .before .before .before .before .if1 .taken) (now (z .args .list)) (z .pre .0) in
-    (m .0, z .pre .1, z .pre .2, z .pre .3, m .1)
+    let m = lent-marks (z .args .n) _ (c .before .before .before .before .if1 .taken) (now (z .args .list)) (z .pre .0) in
+    (m .0, z .pre .1, z .pre .2, z .pre .3, z .pre .4, m .1)
 
 array-borrow-prefix-marks-2 : tie.Need-array-borrow-prefix-marks-2
 array-borrow-prefix-marks-2 c = search needs
@@ -27,7 +27,7 @@ cut-marked-requires-2 : tie.Need-cut-marked-requires-2
 cut-marked-requires-2 c κs =
     let z = c .before .before .before .before .before .before in
     let m = lent-marks (z .args .n) 65536 (z .pre .0 .few-vertices) (now (z .args .list)) (z .pre .0) in
-    (m .0, z .pre .1, z .pre .2, z .pre .3, m .1)
+    (m .0, z .pre .1, z .pre .2, z .pre .3, z .pre .4, m .1)
 
 same-length : tie.Need-same-length
 same-length c = search needs
@@ -42,7 +42,7 @@ returns : tie.Need-returns
 returns c =
     let z = c .before .before .before .before .before .before .before .before .before .before .before .before in
     let m = c .before .before .before .before .before .cut-marked in
-    lent-cut (z .args .n) 2048 (c .before .before .before .before .before .before .before .before .before .before .if1 .taken) (now (z .args .list)) (m .result .vertices) (m .result .«singular_vertices») (m .last .1 .1 .0) (now (z .args .map)) (m .last .1 .1 .1 .0) (m .ensures)
+    lent-cut (z .args .n) _ (c .before .before .before .before .before .before .before .before .before .before .if1 .taken) (now (z .args .list)) (m .result .vertices) (m .result .«singular_vertices») (m .last .1 .1 .0) (now (z .args .map)) (m .last .1 .1 .1 .0) (m .ensures)
 
 same-length-4 : tie.Need-same-length-4
 same-length-4 c = search needs

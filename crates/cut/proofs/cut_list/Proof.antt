@@ -14,7 +14,8 @@ group-list-requires c κs = search needs
 cut-groups-requires : tie.Need-cut-groups-requires
 cut-groups-requires c κs =
     let z = c .before .before .before .before .before .before .before .before in
-    (z .pre .0, c .before .before .before .before .before .group-list .ensures .0, z .pre .2, z .pre .3)
+    let g = c .before .before .before .before .before .group-list in
+    (z .pre .0, g .ensures .0, g .ensures .1, z .pre .2, z .pre .3)
 
 clear-requires : tie.Need-clear-requires
 clear-requires c κs = search needs

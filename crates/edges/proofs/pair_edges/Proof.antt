@@ -1,21 +1,22 @@
--- `pair_edges` meets its contract: either order of the corners is what finding the mates asks, and has the keys as they came.
+-- `pair_edges` meets its contract: the order of the corners is what finding the mates asks, and has the keys as they came.
+use Prim.Native.Nat.{_*_}
+use mathlib.Core.Logic.{inl}
+use native.Mathlib.Omega.{arith}
 use borrow.Author.Needs.{needs}
 use denote.Ref.{now}
-use Rattle.edges.proofs.Assembly.{keys-below-same, keys-part, ordered-ready}
+use Rattle.edges.proofs.Parts.{kept-part, kept-trans, kept-wider}
+use Rattle.edges.proofs.Assembly.{keys-below-kept}
 use Rattle.edges.proofs.pair_edges.Statement.{statement}
 use Rattle.edges.proofs.pair_edges.Tie as tie
 
-by-lower-requires : tie.Need-by-lower-requires
-by-lower-requires c κs =
-    let s = c .before .before .before in
-    (s .pre .0, s .pre .1, c .before .if1 .taken, s .pre .2)
+order-corners-requires : tie.Need-order-corners-requires
+order-corners-requires c κs = let s = c .before .before in (s .pre .0, s .pre .1, s .pre .3)
 
 match-corners-requires : tie.Need-match-corners-requires
 match-corners-requires c κs =
     let o = c .before .before .before in
-    let t = o .before .before in
-    let s = t .before .before in
-    (o .by-lower .ensures .0, t .if1 .taken, keys-below-same (s .args .c) (s .args .n) (now (s .args .work)) (o .by-lower .last .0) (o .by-lower .ensures .1) (s .pre .2))
+    let s = o .before .before .before in
+    (o .order-corners .ensures .0, s .pre .2, keys-below-kept (s .args .c) (s .args .n) (now (s .args .work)) (o .order-corners .last .0) (o .order-corners .ensures .1) (s .pre .3))
 
 same-length : tie.Need-same-length
 same-length c = search needs
@@ -24,37 +25,20 @@ returns : tie.Need-returns
 returns c =
     let m = c .before .before in
     let o = m .before .before .before .before in
-    rw (o .by-lower .ensures .1) at (m .match-corners .ensures)
-
-by-digits-requires : tie.Need-by-digits-requires
-by-digits-requires c κs = search needs
-
-write-mates-requires : tie.Need-write-mates-requires
-write-mates-requires c κs =
-    let o = c .before .before .before in
-    let s = o .before .before .before .before in
-    ordered-ready (s .args .c) (now (s .args .work)) (o .by-digits .last .0) (s .pre .1) (s .pre .0) (o .by-digits .ensures)
-
-same-length-2 : tie.Need-same-length-2
-same-length-2 c = search needs
-
-returns-2 : tie.Need-returns-2
-returns-2 c =
-    let m = c .before .before in
-    let o = m .before .before .before .before in
-    let s = o .before .before .before .before in
-    let k = keys-part (s .args .c) (now (s .args .work)) (o .by-digits .last .0) (s .pre .0) (o .by-digits .ensures .long) (o .by-digits .ensures .keys) in
-    (rw k at (m .write-mates .ensures .0), rw k at (m .write-mates .ensures .1 .1))
+    let s = o .before .before .before in
+    let w = now (s .args .work) in
+    let w₁ = o .order-corners .last .0 in
+    let w₂ = m .match-corners .last .0 in
+    let kept = o .order-corners .ensures .1 in
+    let keys = kept-part (s .args .c) (2 * s .args .c) 0 (s .args .c) w w₁ (inl (omega arith)) (omega (arith, s .pre .0)) kept in (
+      rw keys at (m .match-corners .ensures .0),
+      (
+        rw keys at (m .match-corners .ensures .1 .0),
+        kept-trans (s .args .c) (2 * s .args .c) w w₁ w₂ kept (kept-wider (2 * s .args .c) (s .args .c) (s .args .c) (2 * s .args .c) w₁ w₂ (omega arith) (omega arith) (m .match-corners .ensures .1 .1)),
+      ),
+    )
 
 pub pair-edges-spec : {M : Type 1} → statement M
 pair-edges-spec =
     tie.close
-    (tie.spec
-    by-lower-requires
-    match-corners-requires
-    same-length
-    returns
-    by-digits-requires
-    write-mates-requires
-    same-length-2
-    returns-2)
+    (tie.spec order-corners-requires match-corners-requires same-length returns)

@@ -12,7 +12,7 @@ use Rattle.list.specs.Flags.{Flags}
 use Rattle.list.specs.declared.Cursor.{Cursor}
 use Rattle.list.specs.declared.FaceFault.{FaceFault}
 use Rattle.list.specs.declared.FaceFault.the-variants as Fault·
-use Rattle.list.proofs.Runs.{Stepped, step-stepped, step-last}
+use Rattle.list.proofs.Runs.{Stepped, step-stepped, step-last, stepped-no-end}
 use Rattle.list.proofs.Faults.{placeIn, fault-fits}
 use Rattle.list.proofs.Checking.{Checking, sound, checking-start, checking-done, checking-face, checking-turn, checking-fits}
 use Rattle.list.proofs.check_faces.Statement.{statement}
@@ -108,7 +108,7 @@ part-face-fault-end c = stepped (c .before) .within
 face-fault-requires : tie.Need-face-fault-requires Inv-loop μ-loop
 face-fault-requires c κs =
     let a = c .before .before .before .before .before .before in
-    subst (λ (fs : List ℕ). Flags (a .before .before .before .args .n) fs) (sym (a .loop .inv .1)) (a .before .before .before .pre)
+    (stepped-no-end _ _ _ _ _ (stepped (c .before .before .before)), subst (λ (fs : List ℕ). Flags (a .before .before .before .args .n) fs) (sym (a .loop .inv .1)) (a .before .before .before .pre))
 
 enum-told-2 : tie.Need-enum-told-2 Inv-loop μ-loop
 enum-told-2 c = c .match2 .keys1

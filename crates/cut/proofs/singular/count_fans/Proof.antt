@@ -1,5 +1,5 @@
--- `singular::count_fans` meets its contract: the marks so far and the fans of the entries that are left give the marks, and the count
--- is always that of the marks that have become singular.
+-- `singular::count_fans` meets its contract: the marks so far and the fans of the entries that are left give the marks, and the
+-- count is always that of the marks that have become singular.
 use borrow.Author.Needs.{needs}
 use native.Mathlib.Omega.{arith}
 use Prim.Native.Nat.{_-_, _≤_, _<_}

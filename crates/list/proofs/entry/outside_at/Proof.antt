@@ -1,4 +1,4 @@
--- `entry::outside_at` meets its contract: below zero an entry is compared with -1, from zero on with n, as `outside` has it.
+-- `entry::outside_at` meets its contract: an entry that is not -1 is outside where it is below zero, and from zero on where it is at least n.
 use Rattle.list.proofs.Signs.{outside-negative, outside-natural, cast-natural}
 use borrow.Author.Needs.{needs}
 use lib.IntN.{ℤ, pos}
@@ -18,7 +18,7 @@ shared-slice-copy-out-x : tie.Need-shared-slice-copy-out-x
 shared-slice-copy-out-x c = search needs
 
 returns : tie.Need-returns
-returns c = outside-negative (z (c .before)) (c .before .x .given) (c .before .before .args .n) (c .if1 .taken)
+returns c = outside-negative (z (c .before)) (c .before .x .given) (c .before .before .args .n) (c .before .before .pre .1) (c .if1 .taken)
 
 cast-result : tie.Need-cast-result
 cast-result c = cast-natural (z (c .before)) (c .before .x .given) (c .if1 .left)

@@ -15,7 +15,7 @@ inside : (c : tie.Else1) → length (now (c .before .before .before .args .face)
 inside c = omega (arith, c .before .first-outside .ensures, c .if1 .left)
 
 first-outside-requires : tie.Need-first-outside-requires
-first-outside-requires c κs = search needs
+first-outside-requires c κs = c .before .pre .0
 
 returns : tie.Need-returns
 returns c =
@@ -30,7 +30,7 @@ returns-2 c =
 first-repeat-requires : tie.Need-first-repeat-requires
 first-repeat-requires c κs =
     let s = c .before .before .before .before .before in
-    inside-clear (s .args .n) (now (s .args .face)) (now (s .args .flags)) (inside (c .before .before)) (s .pre .each) (s .pre .some) (s .pre .zeros)
+    inside-clear (s .args .n) (now (s .args .face)) (now (s .args .flags)) (inside (c .before .before)) (s .pre .1 .each) (s .pre .1 .some) (s .pre .1 .zeros)
 
 same-length : tie.Need-same-length
 same-length c = search needs

@@ -19,7 +19,7 @@ loop-holds : tie.Need-loop-holds Inv-loop μ-loop
 loop-holds c = omega arith
 
 outside-at-requires : tie.Need-outside-at-requires Inv-loop μ-loop
-outside-at-requires c κs = c .loop-test .taken
+outside-at-requires c κs = (c .loop-test .taken, c .before .before .pre (c .before .loop .i) (c .loop-test .taken))
 
 returns : tie.Need-returns Inv-loop μ-loop
 returns c =
