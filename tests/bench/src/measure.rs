@@ -5,32 +5,24 @@ use lists::meshes::Mesh;
 use std::hint::black_box;
 
 /// How many cut.
-pub const WHO: usize = 5;
+pub const WHO: usize = 4;
 
 /// Who cuts.
 #[derive(Clone, Copy, PartialEq, Eq)]
 pub enum Who {
     Product,
-    TwoPasses,
-    FourPasses,
+    Unchecked,
     Baseline,
     Touch,
 }
 
 impl Who {
-    pub const ALL: [Who; WHO] = [
-        Who::Product,
-        Who::TwoPasses,
-        Who::FourPasses,
-        Who::Baseline,
-        Who::Touch,
-    ];
+    pub const ALL: [Who; WHO] = [Who::Product, Who::Unchecked, Who::Baseline, Who::Touch];
 
     pub fn name(self) -> &'static str {
         match self {
             Who::Product => "product",
-            Who::TwoPasses => "Rust, two passes",
-            Who::FourPasses => "Rust, four passes",
+            Who::Unchecked => "Rust, unchecked",
             Who::Baseline => "HashMap",
             Who::Touch => "one touch",
         }
@@ -89,8 +81,7 @@ fn cut(who: Who, mesh: &Mesh, buffers: &mut Buffers) -> u64 {
     } = buffers;
     match who {
         Who::Product => product::cut(list, *n, new_list, map, work)[4],
-        Who::TwoPasses => rivals::unchecked::cut(list, *n, new_list, map, work)[4],
-        Who::FourPasses => rivals::unchecked::cut_by_digits(list, *n, new_list, map, work)[4],
+        Who::Unchecked => rivals::unchecked::cut(list, *n, new_list, map, work)[4],
         Who::Baseline => match rivals::baseline::cut(list, *n as usize) {
             Ok(cut) => black_box(cut).map.len() as u64,
             Err(_) => 0,

@@ -20,8 +20,7 @@ const STYLE: &str = "text{font:13px sans-serif;fill:#222}.title{font-size:15px;f
 fn colour(who: Who) -> &'static str {
     match who {
         Who::Product => "#0b6e4f",
-        Who::TwoPasses => "#e08e0b",
-        Who::FourPasses => "#2a78c8",
+        Who::Unchecked => "#e08e0b",
         Who::Baseline => "#8a2be2",
         Who::Touch => "#888888",
     }
@@ -84,14 +83,13 @@ fn point(who: Who, x: f64, y: f64) -> String {
     let fill = colour(who);
     let shape = match who {
         Who::Product => format!("<circle cx=\"{x:.1}\" cy=\"{y:.1}\" r=\"5\""),
-        Who::TwoPasses => format!(
+        Who::Unchecked => format!(
             "<path d=\"M{:.1} {y:.1}L{x:.1} {:.1}L{:.1} {y:.1}L{x:.1} {:.1}Z\"",
             x - 5.0,
             y - 5.0,
             x + 5.0,
             y + 5.0
         ),
-        Who::FourPasses => format!("<path d=\"M{:.1} {:.1}h8v2.6h-8Z\"", x - 4.0, y - 1.3),
         Who::Baseline => format!(
             "<rect x=\"{:.1}\" y=\"{:.1}\" width=\"9\" height=\"9\"",
             x - 4.5,

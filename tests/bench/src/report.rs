@@ -79,7 +79,7 @@ fn figures(results: &Results) -> String {
 /// All rivals at the largest size.
 fn at_limit(results: &Results) -> String {
     let last = SIZE_NAMES.len() - 1;
-    let mut table = "| family | corners | product | Rust, two passes | Rust, four passes | HashMap | one touch |\n|---|---|---|---|---|---|---|\n".to_string();
+    let mut table = "| family | corners | product | Rust, unchecked | HashMap | one touch |\n|---|---|---|---|---|---|\n".to_string();
     for (family, rows) in FAMILIES.iter().zip(&results.rows) {
         let row = rows[last];
         let mut cells = vec![family.name.to_string(), row.corners.to_string()];
@@ -109,8 +109,7 @@ fn limits(results: &Results) -> String {
 pub fn page(results: &Results, load: &str, notes: &str) -> String {
     let product = |row: &Row| row.ns(Who::Product);
     let to_baseline = |row: &Row| row.ratio(Who::Baseline, Who::Product);
-    let to_four = |row: &Row| row.ratio(Who::Product, Who::FourPasses);
-    let to_two = |row: &Row| row.ratio(Who::Product, Who::TwoPasses);
+    let to_rust = |row: &Row| row.ratio(Who::Product, Who::Unchecked);
     let growth = results.mean_ns(Who::Product, 3) / results.mean_ns(Who::Product, 1);
     [
         "# Benchmark of the cut\n".to_string(),
@@ -122,7 +121,7 @@ pub fn page(results: &Results, load: &str, notes: &str) -> String {
             compiler()
         ),
         "The product is called through its static library. Beside it in the same run stand:\n".to_string(),
-        "- *HashMap*: a `HashMap` of edges with union-find, and a `HashSet` for the repeats in a face, as a good Rust programmer would first write it;\n- *Rust, four passes*: the same algorithm in Rust without bounds checks, the corners ordered by four passes over bytes for every list;\n- *Rust, two passes*: the same with two passes over whole indices where n is at most the corner count, and four passes elsewhere;\n- *one touch* of list, new list, map and work, which no cut can do without.\n".to_string(),
+        "- *HashMap*: a `HashMap` of edges with union-find, and a `HashSet` for the repeats in a face, as a good Rust programmer would first write it;\n- *Rust, unchecked*: the same algorithm in Rust without bounds checks;\n- *one touch* of list, new list, map and work, which no cut can do without.\n".to_string(),
         "All cut the same lists into buffers that are warm, with work clear from the call before; the baseline makes its own vectors. They take turns; a time is processor time of the one thread that runs, that of the quickest of 31 to 200 turns (until the quickest stays what it is). Each result was compared with the second program's before it was timed.\n".to_string(),
         format!(
             "The turn in the middle took {:.2} times as long as the quickest (geometric mean over all), which says how busy the machine was.\n",
@@ -139,10 +138,8 @@ pub fn page(results: &Results, load: &str, notes: &str) -> String {
         format!("Growth from 1k to 65k: {growth:.2} times.\n"),
         "## Times faster than the HashMap baseline\n".to_string(),
         by_size(results, to_baseline, |size| results.mean_ratio(Who::Baseline, Who::Product, size), 1),
-        "## Times \"Rust, four passes\"\n".to_string(),
-        by_size(results, to_four, |size| results.mean_ratio(Who::Product, Who::FourPasses, size), 2),
-        "## Times \"Rust, two passes\"\n".to_string(),
-        by_size(results, to_two, |size| results.mean_ratio(Who::Product, Who::TwoPasses, size), 2),
+        "## Times the same algorithm in Rust\n".to_string(),
+        by_size(results, to_rust, |size| results.mean_ratio(Who::Product, Who::Unchecked, size), 2),
         "## Each call at 65,536 entries\n".to_string(),
         "The longest time over all families and a 65,536-gon that repeats an index at its end, and the deepest stack, measured by painting it (the frames of the Rust functions that call, some hundred bytes, are within it). The program reads at most 1,024 entries, the library 65,536. Reading and writing is of the list's text; the edge question asks for the edge between 0 and 1; showing a face asks for one behind the last.\n".to_string(),
         limits(results),
