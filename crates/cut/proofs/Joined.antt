@@ -1,14 +1,14 @@
 -- Forests of parents. A join puts the later of two roots under the earlier, and the labels are then the merged ones.
-use Prim.Native.Nat.{ℕ, _+_, _*_, _≤_, _<_, min, max}
-use mathlib.Core.Path.{_≡_, refl, sym, _∙_}
+use Prim.Native.Nat.{ℕ, _+_, _-_, _*_, _≤_, _<_, min, max}
+use mathlib.Core.Path.{_≡_, refl, sym, _∙_, ap, subst}
 use mathlib.Core.Bool.{Bool, true, false, cond}
-use mathlib.Core.List.{List, [], _∷_, map}
+use mathlib.Core.List.{List, [], _∷_, _++_, map, append-nil}
 use native.Mathlib.Omega.{arith}
 use native.Mathlib.Decide.{decLe}
 use borrow.Author.Tests.{eqb-true, eqb-false, eq-eqb, ne-eqb}
 use lib.Dec.{eqb}
-use lib.ListN.{length, set, length-set, length-map}
-use lib.Seq.{getD-set-same, getD-set-other, take-set-le}
+use lib.ListN.{length, set, take, drop, length-set, length-map, length-drop, length-append, drop-of-length-le}
+use lib.Seq.{getD-set-same, getD-set-other, getD-drop, getD-append-add, take-set-le, take-at, take-all, length-take-le}
 use Rattle.cut.specs.Groups.{Link, merge, mergeAll, replaced}
 use Rattle.cut.proofs.Counting.{map-at}
 use Rattle.cut.specs.Forest.{at, link, Forest, Rises, Climbs, Regrouped, linksAcross}
@@ -114,6 +114,50 @@ module _ (w : List ℕ) (p x y a b : ℕ) (hx : p + x < length w) (hy : p + y < 
           let lo : min a b ≡ b = omega arith in
           let hi : max a b ≡ a = omega arith in
           rw (lo, hi) (join-first w p labels F x y a b (omega (arith, F .long)) (omega (arith, F .long)) A B (omega arith))
+
+-- a join of the parents alone, which stand behind the first p words
+module _ (w s : List ℕ) (p : ℕ) (g : List ℕ → List ℕ) (h : p ≤ length w) (l : length s ≡ length (drop p w)) (R : Regrouped (drop p w) s 0 g) where
+  abbrev w′ : List ℕ
+  w′ = take p w ++ s
+
+  apart : length (take p w) ≡ p
+  apart = length-take-le p w h
+
+  old-at : (i : ℕ) → at (drop p w) (0 + i) ≡ at w (p + i)
+  old-at i = let z : 0 + i ≡ i = omega arith in ap (at (drop p w)) z ∙ getD-drop p w i 0
+
+  new-at : (i : ℕ) → at w′ (p + i) ≡ at s (0 + i)
+  new-at i =
+      let z : i ≡ 0 + i = omega arith in
+      ap (λ (k : ℕ). at w′ (k + i)) (sym apart) ∙ getD-append-add (take p w) s i 0 ∙ ap (at s) z
+
+  alone : (labels : List ℕ) → Forest w p labels → Forest (drop p w) 0 labels
+  alone labels F =
+      record {
+        long = omega (arith, length-drop p w, F .long);
+        down = λ i q. rw (old-at i) (F .down i q);
+        same = λ i q. rw (old-at i) (F .same i q);
+        root = λ i q e. F .root i q (sym (old-at i) ∙ e);
+      }
+
+  behind : (labels : List ℕ) → Forest s 0 labels → Forest w′ p labels
+  behind labels F =
+      record {
+        long = omega (arith, length-append (take p w) s, apart, F .long);
+        down = λ i q. rw (new-at i) (F .down i q);
+        same = λ i q. rw (new-at i) (F .same i q);
+        root = λ i q e. F .root i q (sym (new-at i) ∙ e);
+      }
+
+  regrouped-behind : Regrouped w w′ p g
+  regrouped-behind = record { front = take-at (take p w) s p apart; groups = λ labels F. behind (g labels) (R .groups labels (alone labels F)) }
+
+-- the parents lent as the part from p to the end
+pub regrouped-lent : (w s : List ℕ) (p m : ℕ) (g : List ℕ → List ℕ) → p ≤ length w → m ≡ length w - p → length s ≡ length (take m (drop p w)) → Regrouped (take m (drop p w)) s 0 g → Regrouped w (take p w ++ (s ++ drop m (drop p w))) p g
+regrouped-lent w s p m g h e l R =
+    let all : take m (drop p w) ≡ drop p w = take-all m (drop p w) (omega (arith, length-drop p w)) in
+    let none : s ++ drop m (drop p w) ≡ s = rw (drop-of-length-le (drop p w) {i = m} (omega (arith, length-drop p w))) (append-nil s) in
+    rw none (regrouped-behind w s p g h (l ∙ ap length all) (subst (λ (u : List ℕ). Regrouped u s 0 g) all R))
 
 -- a join after a join
 regrouped-then : (w w₁ w₂ : List ℕ) (p : ℕ) (k₁ k₂ : Link) → Regrouped w w₁ p (λ labels. merge labels k₁) → Regrouped w₁ w₂ p (λ labels. merge labels k₂) → Regrouped w w₂ p (λ labels. mergeAll labels (k₁ ∷ k₂ ∷ []))

@@ -42,7 +42,7 @@ fn later(a: usize, b: usize) -> usize
 }
 
 // Joins the groups of the corners x and y: the later of their two roots gets the earlier for its parent.
-fn join(w: &mut [u32], p: usize, x: usize, y: usize)
+fn put_under(w: &mut [u32], p: usize, x: usize, y: usize)
     requires { ⌜ (p + x < length (now w)) × (p + y < length (now w)) × (length (now w) < 2 ^ 32) ⌝ }
     ensures { λ _. ⌜ Regrouped (now (w .entry)) (now (w .exit)) p (λ labels. merge labels (link x y)) ⌝ }
 {
@@ -50,6 +50,14 @@ fn join(w: &mut [u32], p: usize, x: usize, y: usize)
     let b = root(w, p, y);
     let last = later(a, b);
     w[p + last] = earlier(a, b) as u32;
+}
+
+// The same where the parents are lent alone, so that no step to a parent adds where their block starts.
+fn join(w: &mut [u32], p: usize, x: usize, y: usize)
+    requires { ⌜ (p + x < length (now w)) × (p + y < length (now w)) × (length (now w) < 2 ^ 32) ⌝ }
+    ensures { λ _. ⌜ Regrouped (now (w .entry)) (now (w .exit)) p (λ labels. merge labels (link x y)) ⌝ }
+{
+    put_under(&mut w[p..], 0, x, y);
 }
 
 // Joins across the regular edge whose two uses start at the corners e and m: the two corners at each of its endpoints.

@@ -1,66 +1,44 @@
--- `groups::join` meets its contract: the roots of the two corners are their labels, and the later one goes under the earlier as `merge` has it.
-use Prim.Native.Nat.{_+_, _<_}
+-- `groups::join` meets its contract: the parents are lent alone, and the words before them come back as they were.
+use mathlib.Core.Path.{refl}
 use native.Mathlib.Omega.{arith}
 use borrow.Author.Needs.{needs}
-use lib.ListN.{length}
 use denote.Ref.{now}
-use Rattle.cut.proofs.Joined.{regrouped}
+use Rattle.cut.proofs.Joined.{regrouped-lent}
 use Rattle.cut.proofs.groups.join.Statement.{statement}
 use Rattle.cut.proofs.groups.join.Tie as tie
 
-root-requires : tie.Need-root-requires
-root-requires c κs = search needs
+mul-put-under : tie.Need-mul-put-under
+mul-put-under c = search needs
 
-root-requires-2 : tie.Need-root-requires-2
-root-requires-2 c κs = search needs
+sub-put-under : tie.Need-sub-put-under
+sub-put-under c = search needs
 
-later-requires : tie.Need-later-requires
-later-requires c κs = search needs
+part-put-under-start : tie.Need-part-put-under-start
+part-put-under-start c = search needs
 
-earlier-requires : tie.Need-earlier-requires
-earlier-requires c κs = search needs
+part-put-under-end : tie.Need-part-put-under-end
+part-put-under-end c = search needs
 
--- both roots are not after their corners, so the later of them is in the block
-inside : (c : tie.After-later) → c .before .before .before .before .before .before .args .p + c .later .result < length (now (c .before .before .before .before .before .before .args .w))
-inside c =
-    let z = c .before .before .before .before .before .before in
-    omega (arith, c .later .ensures, c .before .root2 .ensures .rises .below, c .before .before .before .root .ensures .rises .below, z .pre .0, z .pre .1)
-
-cast-w : tie.Need-cast-w
-cast-w c =
-    let r = c .before .before in
-    omega (arith, c .earlier .ensures, r .root2 .ensures .rises .below, r .before .before .root .ensures .rises .below, inside (c .before), r .before .before .before .before .before .pre .0, r .before .before .before .before .before .pre .2)
-
-add-w : tie.Need-add-w
-add-w c = omega (arith, inside (c .before), c .before .before .before .before .before .before .before .pre .2)
-
-mul-w : tie.Need-mul-w
-mul-w c = omega (arith, inside (c .before), c .before .before .before .before .before .before .before .pre .2)
-
-slice-write-w : tie.Need-slice-write-w
-slice-write-w c = inside (c .before)
+put-under-requires : tie.Need-put-under-requires
+put-under-requires c κs = search needs
 
 same-length : tie.Need-same-length
 same-length c = search needs
 
 returns : tie.Need-returns
 returns c =
-    let r = c .before .before in
-    let z = r .before .before .before .before .before in
-    rw (c .before .later .ensures, c .earlier .ensures)
-    (regrouped (now (z .args .w)) (z .args .p) (z .args .x) (z .args .y) (r .before .before .root .result) (r .root2 .result) (z .pre .0) (z .pre .1) (r .before .before .root .ensures) (r .root2 .ensures))
+    let u = c .before .before in
+    let z = u .before .before .before in
+    regrouped-lent (now (z .args .w)) (u .put-under .last .0) (z .args .p) _ _ (omega (arith, z .pre .0)) refl (u .put-under .kept .0) (u .put-under .ensures)
 
 pub join-spec : {M : Type 1} → statement M
 join-spec =
     tie.close
     (tie.spec
-    root-requires
-    root-requires-2
-    later-requires
-    earlier-requires
-    cast-w
-    add-w
-    mul-w
-    slice-write-w
+    mul-put-under
+    sub-put-under
+    part-put-under-start
+    part-put-under-end
+    put-under-requires
     same-length
     returns)

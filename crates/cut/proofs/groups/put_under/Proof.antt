@@ -1,0 +1,66 @@
+-- `groups::put_under` meets its contract: the roots of the two corners are their labels, and the later one goes under the earlier as `merge` has it.
+use Prim.Native.Nat.{_+_, _<_}
+use native.Mathlib.Omega.{arith}
+use borrow.Author.Needs.{needs}
+use lib.ListN.{length}
+use denote.Ref.{now}
+use Rattle.cut.proofs.Joined.{regrouped}
+use Rattle.cut.proofs.groups.put_under.Statement.{statement}
+use Rattle.cut.proofs.groups.put_under.Tie as tie
+
+root-requires : tie.Need-root-requires
+root-requires c κs = search needs
+
+root-requires-2 : tie.Need-root-requires-2
+root-requires-2 c κs = search needs
+
+later-requires : tie.Need-later-requires
+later-requires c κs = search needs
+
+earlier-requires : tie.Need-earlier-requires
+earlier-requires c κs = search needs
+
+-- both roots are not after their corners, so the later of them is in the block
+inside : (c : tie.After-later) → c .before .before .before .before .before .before .args .p + c .later .result < length (now (c .before .before .before .before .before .before .args .w))
+inside c =
+    let z = c .before .before .before .before .before .before in
+    omega (arith, c .later .ensures, c .before .root2 .ensures .rises .below, c .before .before .before .root .ensures .rises .below, z .pre .0, z .pre .1)
+
+cast-w : tie.Need-cast-w
+cast-w c =
+    let r = c .before .before in
+    omega (arith, c .earlier .ensures, r .root2 .ensures .rises .below, r .before .before .root .ensures .rises .below, inside (c .before), r .before .before .before .before .before .pre .0, r .before .before .before .before .before .pre .2)
+
+add-w : tie.Need-add-w
+add-w c = omega (arith, inside (c .before), c .before .before .before .before .before .before .before .pre .2)
+
+mul-w : tie.Need-mul-w
+mul-w c = omega (arith, inside (c .before), c .before .before .before .before .before .before .before .pre .2)
+
+slice-write-w : tie.Need-slice-write-w
+slice-write-w c = inside (c .before)
+
+same-length : tie.Need-same-length
+same-length c = search needs
+
+returns : tie.Need-returns
+returns c =
+    let r = c .before .before in
+    let z = r .before .before .before .before .before in
+    rw (c .before .later .ensures, c .earlier .ensures)
+    (regrouped (now (z .args .w)) (z .args .p) (z .args .x) (z .args .y) (r .before .before .root .result) (r .root2 .result) (z .pre .0) (z .pre .1) (r .before .before .root .ensures) (r .root2 .ensures))
+
+pub put-under-spec : {M : Type 1} → statement M
+put-under-spec =
+    tie.close
+    (tie.spec
+    root-requires
+    root-requires-2
+    later-requires
+    earlier-requires
+    cast-w
+    add-w
+    mul-w
+    slice-write-w
+    same-length
+    returns)
