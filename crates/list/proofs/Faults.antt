@@ -1,14 +1,14 @@
 -- Laws of a face's first fault: which test decides it, and what a face that passed the first test has.
 use Prim.Native.Nat.{ℕ, zero, suc, _≤_, _<_}
 use mathlib.Core.Path.{_≡_, refl}
-use mathlib.Core.Bool.{Bool, true, false, cond}
+use mathlib.Core.Bool.{Bool, true, false, cond, true≢false}
 use mathlib.Core.List.{List, [], _∷_}
 use native.Mathlib.Omega.{arith}
 use borrow.Author.Tests.{lt-ltb, le-ltb, leb-false}
 use lib.Dec.{ltb}
 use lib.IntN.{ℤ, pos, negsuc}
 use lib.ListN.{length, getD, replicate}
-use Rattle.list.specs.Faces.{firstWhere, num, vertices}
+use Rattle.list.specs.Faces.{isEnd, isNatural, NoEnd, Naturals, firstWhere, num, vertices}
 use Rattle.list.specs.Check.{outside, firstOutside, firstRepeat, faceFault}
 use Rattle.list.specs.declared.FaceFault.{FaceFault}
 use Rattle.list.specs.declared.FaceFault.the-variants as Fault·
@@ -42,6 +42,15 @@ num-below n m (pos k) h p e = omega (arith, leb-false n k e)
 num-below n m (negsuc k) h p e = p
 
 -- a face with no entry outside has a flag for each of its vertices
+-- an entry that is neither -1 nor outside is natural
+pub inside-natural : (n : ℕ) (r : List ℤ) → length r ≤ firstOutside n r → NoEnd r → Naturals r
+inside-natural n r h e i k = go (getD r i (pos 0)) (e i k) (first-none (outside n) r h i k)
+  where
+    go : (z : ℤ) → isEnd z ≡ false → outside n z ≡ false → isNatural z ≡ true
+    go (pos k) p q = refl
+    go (negsuc zero) p q = absurd (true≢false p)
+    go (negsuc (suc k)) p q = absurd (true≢false q)
+
 pub inside-clear : (n : ℕ) (r : List ℤ) (fs : List ℕ) → length r ≤ firstOutside n r → n ≤ length fs → 0 < length fs → fs ≡ replicate (length fs) 0 → Clear (vertices r) fs
 inside-clear n r fs h room some z =
     record {

@@ -9,9 +9,9 @@ use native.Mathlib.Decide.{decLt}
 use borrow.Author.Tests.{eqb-true, eqb-false, eq-eqb, ne-eqb}
 use lib.Dec.{eqb}
 use lib.IntN.{ℤ, pos}
-use lib.ListN.{length, getD, take, drop, set, replicate, length-set, length-map, List·getD-map, drop-of-length-le, length-replicate, getD-replicate}
-use lib.Seq.{drop-cons, take-suc, set-set, set-getD, getD-set-same, getD-set-other}
-use Rattle.list.specs.Faces.{num, vertices, firstWhere}
+use lib.ListN.{length, getD, take, drop, set, replicate, length-take, length-set, length-map, List·getD-map, drop-of-length-le, length-replicate, getD-replicate}
+use lib.Seq.{drop-cons, getD-take, take-suc, set-set, set-getD, getD-set-same, getD-set-other}
+use Rattle.list.specs.Faces.{isNatural, Naturals, num, vertices, firstWhere}
 use Rattle.list.specs.Check.{isVertex, elem, repeatAfter, firstRepeat}
 use Rattle.list.specs.Flags.{seenTo, marked, Clear, Marked}
 
@@ -203,6 +203,12 @@ module _ (vs fs flags : List ℕ) (r : ℕ) (c : Clear vs fs) (er : r ≡ firstR
   clear-again after e = e ∙ ap (λ k. replicate k 0) as-long ∙ sym (c .zeros)
 
 -- what looking in the part before place j finds
+-- the entries before a place are natural where all are
+pub naturals-before : (l : List ℤ) (j : ℕ) → Naturals l → Naturals (take j l)
+naturals-before l j h i k =
+    let q : i < j = omega (arith, length-take j l) in
+    ap isNatural (getD-take j l i (pos 0) q) ∙ h i (omega (arith, length-take j l))
+
 pub looked : (l : List ℤ) (j v : ℕ) → j ≤ length l → v ≡ num (getD l j (pos 0)) → elem v (vertices (take j l)) ≡ elem (getD (vertices l) j 0) (seenTo (vertices l) j)
 looked l j v h e =
     rw (e, ← (vertex-of l j), vertices-take l j)

@@ -1,17 +1,17 @@
 -- Laws of one signed entry z: what the code's tests and casts, made on its 32 bits, say of it in the words of the definitions.
 -- Each asks that z fits, which a slice's element does.
 use Prim.Native.Nat.{ℕ, zero, suc, _-_, _≤_, _<_, _^_}
-use mathlib.Core.Path.{_≡_, refl}
+use mathlib.Core.Path.{_≡_, refl, sym}
 use mathlib.Core.Bool.{Bool, true, false, true≢false}
 use native.Mathlib.Omega.{arith}
-use borrow.Author.Tests.{ltb-true, lt-ltb, ne-eqb}
+use borrow.Author.Tests.{ltb-true, lt-ltb, le-ltb, ne-eqb}
 use lib.Dec.{T, leb, eqb}
 use lib.IntN.{ℤ, pos, negsuc, natAbs}
 use lib.Signed.{mag, ltZ, nonNeg}
 use mir.Syntax.{w32, w64}
 use mir.Val.{ofZ, toZ, Fits}
 use mir.ValLaws.{toZ-ofZ}
-use Rattle.list.specs.Faces.{isEnd, num}
+use Rattle.list.specs.Faces.{isEnd, isNatural, num}
 use Rattle.list.specs.Check.{outside}
 
 -- the bits of z read back are z
@@ -38,6 +38,13 @@ module _ (z : ℤ) (f : mag z < 2 ^ 31) where
       go : (z : ℤ) → ltZ z (pos 0) ≡ false → leb n (natAbs z) ≡ outside n z
       go (pos k) h = refl
       go (negsuc k) h = absurd (true≢false h)
+
+  pub natural-not-negative : isNatural z ≡ true → ltZ (toZ w32 (ofZ w32 z)) (pos 0) ≡ false
+  natural-not-negative = rw (read-back z f) (go z)
+    where
+      go : (z : ℤ) → isNatural z ≡ true → ltZ z (pos 0) ≡ false
+      go (pos k) h = le-ltb k 0 (omega arith)
+      go (negsuc k) h = absurd (true≢false (sym h))
 
   pub num-negative : ltZ (toZ w32 (ofZ w32 z)) (pos 0) ≡ true → 0 ≡ num z
   num-negative = rw (read-back z f) (go z)

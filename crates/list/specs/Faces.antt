@@ -5,6 +5,8 @@
 --   firstWhere p l   the place of the first entry that p holds of; l's length if there is none
 --   runLength l      the number of entries before the first -1
 --   NoEnd r          no entry of r is -1
+--   isNatural x      the entry x is not negative
+--   Naturals r       no entry of r is negative
 --   Face             where a face starts, as a position among all entries, and its entries without its -1
 --   faces l          the faces of l, numbered from 0 in list order
 --   corners l        the entries other than -1, in list order
@@ -46,6 +48,13 @@ runLength l = firstWhere isEnd l
 
 abbrev pub NoEnd : List ℤ → Type 0
 NoEnd r = (i : ℕ) → i < length r → isEnd (getD r i (pos 0)) ≡ false
+
+abbrev pub isNatural : ℤ → Bool
+isNatural (pos k) = true
+isNatural (negsuc k) = false
+
+abbrev pub Naturals : List ℤ → Type 0
+Naturals r = (i : ℕ) → i < length r → isNatural (getD r i (pos 0)) ≡ true
 
 pub record Face : Type 0 where
   pub start : ℕ

@@ -1,10 +1,10 @@
 // Signed entries, read at a position of a list. These functions and `vertex_at` alone look at an entry's sign.
 ghost use mathlib.Core.Path.{_≡_};
-ghost use mathlib.Core.Bool.{false};
+ghost use mathlib.Core.Bool.{true, false};
 ghost use Prim.Native.Nat.{_+_, _<_};
 ghost use lib.ListN.{length, getD, drop};
 ghost use lib.IntN.{pos};
-ghost use Rattle.list.specs.Faces.{isEnd, runLength};
+ghost use Rattle.list.specs.Faces.{isEnd, isNatural, num, runLength};
 ghost use Rattle.list.specs.Check.{outside};
 
 pub fn end_at(l: &[i32], i: usize) -> bool
@@ -24,6 +24,15 @@ pub fn outside_at(l: &[i32], i: usize, n: usize) -> bool
         return true;
     }
     n <= x as usize
+}
+
+// The entry at i, which is not negative, as a vertex.
+pub fn natural_at(l: &[i32], i: usize) -> usize
+    requires { ⌜ (i < length (now l)) × (isNatural (getD (now l) i (pos 0)) ≡ true) ⌝ }
+    ensures { λ r. ⌜ r ≡ num (getD (now (l .entry)) i (pos 0)) ⌝ }
+{
+    let x = l[i];
+    x as usize
 }
 
 // The position of the -1 that ends the face which starts at `at`, or the list's length if the list ends first; `at` itself where

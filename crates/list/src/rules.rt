@@ -1,7 +1,7 @@
 // The rules that a face is held to. Each takes one face as a part of the list that starts in its middle.
 ghost use mathlib.Core.Path.{_≡_};
 ghost use lib.ListN.{length, replicate};
-ghost use Rattle.list.specs.Faces.{NoEnd, vertices, firstWhere};
+ghost use Rattle.list.specs.Faces.{NoEnd, Naturals, vertices, firstWhere};
 ghost use Rattle.list.specs.Check.{isVertex, firstOutside, firstRepeat, faceFault};
 ghost use Rattle.list.specs.Flags.{Flags, Clear, Marked, marked, seenTo};
 use crate::FaceFault;
@@ -27,11 +27,12 @@ pub fn first_outside(face: &[i32], n: usize) -> usize
 
 // The place of the vertex v in the part; the part's length if it is not there.
 pub fn place_in(part: &[i32], v: usize) -> usize
+    requires { ⌜ Naturals (now part) ⌝ }
     ensures { λ r. ⌜ r ≡ firstWhere (isVertex v) (now (part .entry)) ⌝ }
 {
     let mut i = 0;
     while i < part.len() {
-        if crate::vertex_at(part, i) == v {
+        if crate::entry::natural_at(part, i) == v {
             return i;
         }
         i += 1;
@@ -41,11 +42,12 @@ pub fn place_in(part: &[i32], v: usize) -> usize
 
 // The first repeat of a short face: each entry, from the left, is looked for in the part before it.
 pub fn repeat_by_looking(face: &[i32]) -> usize
+    requires { ⌜ Naturals (now face) ⌝ }
     ensures { λ r. ⌜ r ≡ firstRepeat (vertices (now (face .entry))) ⌝ }
 {
     let mut j = 0;
     while j < face.len() {
-        let v = crate::vertex_at(face, j);
+        let v = crate::entry::natural_at(face, j);
         let earlier = place_in(&face[..j], v);
         if earlier < j {
             return j;
@@ -96,7 +98,7 @@ pub fn repeat_by_flags(face: &[i32], flags: &mut [u8]) -> usize
 }
 
 pub fn first_repeat(face: &[i32], flags: &mut [u8]) -> usize
-    requires { ⌜ Clear (vertices (now face)) (now flags) ⌝ }
+    requires { ⌜ Naturals (now face) × Clear (vertices (now face)) (now flags) ⌝ }
     ensures { λ r. ⌜ (r ≡ firstRepeat (vertices (now (face .entry)))) × (now (flags .exit) ≡ now (flags .entry)) ⌝ }
 {
     if face.len() <= SHORT_FACE {

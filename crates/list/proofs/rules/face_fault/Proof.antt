@@ -5,7 +5,7 @@ use native.Mathlib.Omega.{arith}
 use lib.ListN.{length}
 use denote.Ref.{now}
 use Rattle.list.specs.Check.{firstOutside}
-use Rattle.list.proofs.Faults.{fault-outside, fault-short, fault-repeated, fault-none, inside-clear}
+use Rattle.list.proofs.Faults.{fault-outside, fault-short, fault-repeated, fault-none, inside-natural, inside-clear}
 use borrow.Author.Needs.{needs}
 use Rattle.list.proofs.rules.face_fault.Statement.{statement}
 use Rattle.list.proofs.rules.face_fault.Tie as tie
@@ -30,7 +30,7 @@ returns-2 c =
 first-repeat-requires : tie.Need-first-repeat-requires
 first-repeat-requires c κs =
     let s = c .before .before .before .before .before in
-    inside-clear (s .args .n) (now (s .args .face)) (now (s .args .flags)) (inside (c .before .before)) (s .pre .1 .each) (s .pre .1 .some) (s .pre .1 .zeros)
+    (inside-natural (s .args .n) (now (s .args .face)) (inside (c .before .before)) (s .pre .0), inside-clear (s .args .n) (now (s .args .face)) (now (s .args .flags)) (inside (c .before .before)) (s .pre .1 .each) (s .pre .1 .some) (s .pre .1 .zeros))
 
 same-length : tie.Need-same-length
 same-length c = search needs

@@ -21,14 +21,14 @@ abbrev μ-loop : tie.MeasureT-loop
 loop-holds : tie.Need-loop-holds Inv-loop μ-loop
 loop-holds c = omega arith
 
-vertex-at-requires : tie.Need-vertex-at-requires Inv-loop μ-loop
-vertex-at-requires c κs = tt
+natural-at-requires : tie.Need-natural-at-requires Inv-loop μ-loop
+natural-at-requires c κs = (c .loop-test .taken, c .before .before .pre (c .before .loop .i) (c .loop-test .taken))
 
 returns : tie.Need-returns Inv-loop μ-loop
 returns c =
     let a = c .before .before .before .before .args in
     let i = c .before .before .before .loop .i in
-    omega (arith, first-here (isVertex (a .v)) (now (a .part)) i (c .before .before .loop-test .taken) (eq-eqb (a .v) (num (getD (now (a .part)) i (pos 0))) (sym (c .if1 .taken) ∙ c .before .vertex-at .ensures)), c .before .before .before .loop .inv)
+    omega (arith, first-here (isVertex (a .v)) (now (a .part)) i (c .before .before .loop-test .taken) (eq-eqb (a .v) (num (getD (now (a .part)) i (pos 0))) (sym (c .if1 .taken) ∙ c .before .natural-at .ensures)), c .before .before .before .loop .inv)
 
 add-i : tie.Need-add-i Inv-loop μ-loop
 add-i c = omega arith
@@ -40,7 +40,7 @@ loop-again : tie.Need-loop-again Inv-loop μ-loop
 loop-again c =
     let a = c .before .before .before .before .args in
     let i = c .before .before .before .loop .i in
-    omega (arith, first-later (isVertex (a .v)) (now (a .part)) i (c .before .before .loop-test .taken) (ne-eqb (a .v) (num (getD (now (a .part)) i (pos 0))) (λ e. c .if1 .left (c .before .vertex-at .ensures ∙ sym e))), c .before .before .before .loop .inv)
+    omega (arith, first-later (isVertex (a .v)) (now (a .part)) i (c .before .before .loop-test .taken) (ne-eqb (a .v) (num (getD (now (a .part)) i (pos 0))) (λ e. c .if1 .left (c .before .natural-at .ensures ∙ sym e))), c .before .before .before .loop .inv)
 
 returns-2 : tie.Need-returns-2 Inv-loop μ-loop
 returns-2 c =
@@ -54,7 +54,7 @@ place-in-spec =
     Inv-loop
     μ-loop
     loop-holds
-    vertex-at-requires
+    natural-at-requires
     returns
     add-i
     loop-less

@@ -11,7 +11,7 @@ use denote.Ref.{now}
 use Rattle.list.specs.Faces.{vertices}
 use Rattle.list.specs.Check.{elem}
 use Rattle.list.specs.Flags.{seenTo}
-use Rattle.list.proofs.Repeats.{Unrepeated, unrepeated-start, unrepeated-turn, unrepeated-found, unrepeated-end, placed, unplaced, looked, vertices-long}
+use Rattle.list.proofs.Repeats.{Unrepeated, unrepeated-start, unrepeated-turn, unrepeated-found, unrepeated-end, placed, unplaced, looked, naturals-before, vertices-long}
 use Rattle.list.proofs.rules.repeat_by_looking.Statement.{statement}
 use Rattle.list.proofs.rules.repeat_by_looking.Tie as tie
 
@@ -36,28 +36,30 @@ module _ (c : tie.After-place-in Inv-loop μ-loop) where
   part-long : length (take j l) ≡ j
   part-long = length-take-le j l (c .before .before .before .before .loop .inv .0)
 
-  seen : (b : Bool) → elem (c .before .before .vertex-at .result) (vertices (take j l)) ≡ b → elem (getD (vertices l) j 0) (seenTo (vertices l) j) ≡ b
+  seen : (b : Bool) → elem (c .before .before .natural-at .result) (vertices (take j l)) ≡ b → elem (getD (vertices l) j 0) (seenTo (vertices l) j) ≡ b
   seen b e =
-      sym (looked l j (c .before .before .vertex-at .result) (c .before .before .before .before .loop .inv .0) (c .before .before .vertex-at .ensures)) ∙ e
+      sym (looked l j (c .before .before .natural-at .result) (c .before .before .before .before .loop .inv .0) (c .before .before .natural-at .ensures)) ∙ e
 
   found : c .place-in .result < j → elem (getD (vertices l) j 0) (seenTo (vertices l) j) ≡ true
-  found h = seen true (placed (c .before .before .vertex-at .result) (take j l) (omega (arith, c .place-in .ensures, part-long)))
+  found h = seen true (placed (c .before .before .natural-at .result) (take j l) (omega (arith, c .place-in .ensures, part-long)))
 
   not-found : j ≤ c .place-in .result → elem (getD (vertices l) j 0) (seenTo (vertices l) j) ≡ false
-  not-found h = seen false (unplaced (c .before .before .vertex-at .result) (take j l) (omega (arith, c .place-in .ensures, part-long)))
+  not-found h = seen false (unplaced (c .before .before .natural-at .result) (take j l) (omega (arith, c .place-in .ensures, part-long)))
 
 loop-holds : tie.Need-loop-holds Inv-loop μ-loop
 loop-holds c = (omega arith, unrepeated-start (vertices (now (c .args .face))))
 
-vertex-at-requires : tie.Need-vertex-at-requires Inv-loop μ-loop
-vertex-at-requires c κs = tt
+natural-at-requires : tie.Need-natural-at-requires Inv-loop μ-loop
+natural-at-requires c κs = (c .loop-test .taken, c .before .before .pre (c .before .loop .j) (c .loop-test .taken))
 
 slice-aggregate-place-in : tie.Need-slice-aggregate-place-in Inv-loop μ-loop
 slice-aggregate-place-in c =
     sym (length-take-le (c .before .before .before .loop .j) (now (c .before .before .before .before .args .face)) (c .before .before .before .loop .inv .0))
 
 place-in-requires : tie.Need-place-in-requires Inv-loop μ-loop
-place-in-requires c κs = tt
+place-in-requires c κs =
+    let s = c .before .before .before .before in
+    naturals-before (now (s .args .face)) (c .before .before .before .loop .j) (s .pre)
 
 returns : tie.Need-returns Inv-loop μ-loop
 returns c =
@@ -87,7 +89,7 @@ repeat-by-looking-spec =
     Inv-loop
     μ-loop
     loop-holds
-    vertex-at-requires
+    natural-at-requires
     slice-aggregate-place-in
     place-in-requires
     returns
