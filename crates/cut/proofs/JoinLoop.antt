@@ -59,7 +59,7 @@ pub record JoinLoop (w₀ : List ℕ) (c : ℕ) (w : List ℕ) (e : ℕ) : Type 
 
 pub loop-start : (w : List ℕ) (c : ℕ) → JoinLoop w c w 0
 unfolding tableLinks
-loop-start w c = record { long = refl; joined = []; regrouped = record { front = refl; groups = λ labels F. F }; left = rw (sub-zero c) }
+loop-start w c = record { long = refl; joined = []; regrouped = record { front = refl; down = λ D. D; groups = λ labels F. F }; left = rw (sub-zero c) }
 
 -- the turns of the loop at e, of which the body takes one
 pub record Turn (w₀ : List ℕ) (c : ℕ) (w : List ℕ) (e : ℕ) : Type 0 where
@@ -92,6 +92,7 @@ module _ (w₀ : List ℕ) (c : ℕ) (w : List ℕ) (e : ℕ) (h : e < c) (J : J
         regrouped =
             record {
               front = R .front ∙ J .regrouped .front;
+              down = λ D. R .down (J .regrouped .down D);
               groups = λ labels F. rw mergeAll-append (R .groups (mergeAll labels (J .joined)) (J .regrouped .groups labels F));
             };
         left = next-left ks (at-both (at w₀ (2 * c + e)) (sym (kept (2 * c + e) (omega arith))));

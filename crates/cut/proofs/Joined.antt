@@ -11,7 +11,7 @@ use lib.ListN.{length, set, take, drop, length-set, length-map, length-drop, len
 use lib.Seq.{getD-set-same, getD-set-other, getD-drop, getD-append-add, take-set-le, take-at, take-all, length-take-le}
 use Rattle.cut.specs.Groups.{Link, merge, mergeAll, replaced}
 use Rattle.cut.proofs.Counting.{map-at}
-use Rattle.cut.specs.Forest.{at, link, Forest, Rises, Climbs, Regrouped, linksAcross}
+use Rattle.cut.specs.Forest.{at, link, Forest, Descends, Rises, Climbs, Regrouped, linksAcross}
 
 replaced-from : (b a : ℕ) → replaced b a b ≡ a
 replaced-from b a = rw (eq-eqb b b refl)
@@ -69,8 +69,11 @@ module _ (w : List ℕ) (p : ℕ) (labels : List ℕ) (F : Forest w p labels) (a
 pub rises-on : (w : List ℕ) (p x r q : ℕ) → Rises w p x r → Rises w p r q → Rises w p x q
 rises-on w p x r q R Q = record { below = omega (arith, R .below, Q .below); along = λ f h. Q .along f h ∙ R .along f h }
 
-pub rises-parent : (w : List ℕ) (p x : ℕ) → p + x < length w → at w (p + x) < x → Rises w p x (at w (p + x))
-rises-parent w p x h q = record { below = omega arith; along = λ f g. g x h }
+pub rises-parent : (w : List ℕ) (p x : ℕ) → p + x < length w → at w (p + x) ≤ x → Rises w p x (at w (p + x))
+rises-parent w p x h q = record { below = q; along = λ f g. g x h }
+
+pub forest-descends : (w : List ℕ) (p : ℕ) (labels : List ℕ) → Forest w p labels → Descends w p
+forest-descends w p labels F i h = F .down i (omega (arith, F .long))
 
 -- the roots a and b of the corners x and y are their labels
 module _ (w : List ℕ) (p : ℕ) (labels : List ℕ) (F : Forest w p labels) (x r : ℕ) (inside : x < length labels) (C : Climbs w p x r) where
@@ -102,9 +105,19 @@ module _ (w : List ℕ) (p x y a b : ℕ) (hx : p + x < length w) (hy : p + y < 
   regrouped =
       record {
         front = take-set-le p w (p + max a b) (min a b) (omega arith);
+        down = λ D i h. falls D i (omega (arith, length-set w (p + max a b) (min a b))) (eqb i (max a b)) refl;
         groups = λ labels F. joined labels F (decLe a b);
       }
     where
+      falls : Descends w p → (i : ℕ) → p + i < length w → (t : Bool) → eqb i (max a b) ≡ t → at (set w (p + max a b) (min a b)) (p + i) ≤ i
+      falls D i h true e =
+          let q : i ≡ max a b = eqb-true i (max a b) e in
+          let k : p + i ≡ p + max a b = omega arith in
+          omega (arith, ap (at (set w (p + max a b) (min a b))) k, getD-set-same w (p + max a b) (min a b) 0 (omega arith))
+      falls D i h false e =
+          let n = eqb-false i (max a b) e in
+          omega (arith, getD-set-other w (p + max a b) (p + i) (min a b) 0 (λ q. n (omega arith)), D i h)
+
       joined : (labels : List ℕ) (F : Forest w p labels) → Dec (a ≤ b) → Forest (set w (p + max a b) (min a b)) p (merge labels (link x y))
       joined labels F (yes h) =
           let lo : min a b ≡ a = omega arith in
@@ -149,8 +162,16 @@ module _ (w s : List ℕ) (p : ℕ) (g : List ℕ → List ℕ) (h : p ≤ lengt
         root = λ i q e. F .root i q (sym (new-at i) ∙ e);
       }
 
+  lent : Descends w p → Descends (drop p w) 0
+  lent D i q = rw (old-at i) (D i (omega (arith, length-drop p w)))
+
   regrouped-behind : Regrouped w w′ p g
-  regrouped-behind = record { front = take-at (take p w) s p apart; groups = λ labels F. behind (g labels) (R .groups labels (alone labels F)) }
+  regrouped-behind =
+      record {
+        front = take-at (take p w) s p apart;
+        down = λ D i q. rw (new-at i) (R .down (lent D) i (omega (arith, length-append (take p w) s, apart)));
+        groups = λ labels F. behind (g labels) (R .groups labels (alone labels F));
+      }
 
 -- the parents lent as the part from p to the end
 pub regrouped-lent : (w s : List ℕ) (p m : ℕ) (g : List ℕ → List ℕ) → p ≤ length w → m ≡ length w - p → length s ≡ length (take m (drop p w)) → Regrouped (take m (drop p w)) s 0 g → Regrouped w (take p w ++ (s ++ drop m (drop p w))) p g
@@ -159,10 +180,17 @@ regrouped-lent w s p m g h e l R =
     let none : s ++ drop m (drop p w) ≡ s = rw (drop-of-length-le (drop p w) {i = m} (omega (arith, length-drop p w))) (append-nil s) in
     rw none (regrouped-behind w s p g h (l ∙ ap length all) (subst (λ (u : List ℕ). Regrouped u s 0 g) all R))
 
+pub descends-lent : (w : List ℕ) (p m : ℕ) → p ≤ length w → m ≡ length w - p → Descends w p → Descends (take m (drop p w)) 0
+descends-lent w p m h e D i q =
+    let all : take m (drop p w) ≡ drop p w = take-all m (drop p w) (omega (arith, length-drop p w)) in
+    let z : 0 + i ≡ i = omega arith in
+    let k : i < length (drop p w) = omega (arith, ap length all) in
+    omega (arith, ap (λ (u : List ℕ). at u (0 + i)) all, ap (at (drop p w)) z, getD-drop p w i 0, D i (omega (arith, length-drop p w)))
+
 -- a join after a join
 regrouped-then : (w w₁ w₂ : List ℕ) (p : ℕ) (k₁ k₂ : Link) → Regrouped w w₁ p (λ labels. merge labels k₁) → Regrouped w₁ w₂ p (λ labels. merge labels k₂) → Regrouped w w₂ p (λ labels. mergeAll labels (k₁ ∷ k₂ ∷ []))
 regrouped-then w w₁ w₂ p k₁ k₂ R S =
-    record { front = S .front ∙ R .front; groups = λ labels F. S .groups (merge labels k₁) (R .groups labels F) }
+    record { front = S .front ∙ R .front; down = λ D. S .down (R .down D); groups = λ labels F. S .groups (merge labels k₁) (R .groups labels F) }
 
 -- the two joins across an edge, along which the two uses run the same way or opposite ways
 module _ (w w₁ w₂ : List ℕ) (c e m : ℕ) where

@@ -5,6 +5,7 @@
 --   link x y           the link between the corners x and y
 --   Forest w p labels  the parents from p on are those of groups with these labels: a parent is in its child's group and not after
 --                      it, and a corner that is its own parent is its group's label
+--   Descends w p       no parent from p on is after its child
 --   Rises w p x r      r is reached from x by going from child to parent
 --   Climbs w p x r     r is reached from x by going from child to parent, and has no earlier parent
 --   Regrouped w w′ p g from p on w has become w′, and where it held groups with some labels, it holds those with g of them
@@ -49,6 +50,9 @@ pub record Forest (w : List ℕ) (p : ℕ) (labels : List ℕ) : Type 0 where
   pub same : (i : ℕ) → i < length labels → at labels (at w (p + i)) ≡ at labels i
   pub root : (i : ℕ) → i < length labels → at w (p + i) ≡ i → at labels i ≡ i
 
+abbrev pub Descends : List ℕ → ℕ → Type 0
+Descends w p = (i : ℕ) → p + i < length w → at w (p + i) ≤ i
+
 pub record Rises (w : List ℕ) (p x r : ℕ) : Type 0 where
   pub below : r ≤ x
   pub along : (f : ℕ → ℕ) → ((i : ℕ) → p + i < length w → f (at w (p + i)) ≡ f i) → f r ≡ f x
@@ -59,6 +63,7 @@ pub record Climbs (w : List ℕ) (p x r : ℕ) : Type 0 where
 
 pub record Regrouped (w w′ : List ℕ) (p : ℕ) (g : List ℕ → List ℕ) : Type 0 where
   pub front : take p w′ ≡ take p w
+  pub down : Descends w p → Descends w′ p
   pub groups : (labels : List ℕ) → Forest w p labels → Forest w′ p (g labels)
 
 pub record TableWords (w : List ℕ) (c : ℕ) : Type 0 where

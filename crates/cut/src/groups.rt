@@ -3,21 +3,21 @@ ghost use mathlib.Core.Path.{_≡_};
 ghost use Prim.Native.Nat.{_+_, _-_, _*_, _<_, _≤_, _^_, min, max};
 ghost use lib.ListN.{length, take};
 ghost use Rattle.cut.specs.Groups.{merge, mergeAll, upTo, labelsOf};
-ghost use Rattle.cut.specs.Forest.{Rises, Climbs, Regrouped, TableWords, Forest, link, linksAcross, tableLinks};
+ghost use Rattle.cut.specs.Forest.{Descends, Rises, Climbs, Regrouped, TableWords, Forest, link, linksAcross, tableLinks};
 
-// The parent of the corner x where that is earlier, else x itself.
+// The parent of the corner x.
 fn parent(w: &[u32], p: usize, x: usize) -> usize
-    requires { ⌜ p + x < length (now w) ⌝ }
+    requires { ⌜ (p + x < length (now w)) × Descends (now w) p ⌝ }
     ensures { λ r. ⌜ Rises (now (w .entry)) p x r ⌝ }
 {
     let q = w[p + x] as usize;
-    if q < x { q } else { x }
+    q
 }
 
 // The corner at which the way from x over parents ends. It only reads. Most ways have at most two steps: those two are taken
 // without a test, since how many there are cannot be guessed.
 fn root(w: &[u32], p: usize, x: usize) -> usize
-    requires { ⌜ p + x < length (now w) ⌝ }
+    requires { ⌜ (p + x < length (now w)) × Descends (now w) p ⌝ }
     ensures { λ r. ⌜ Climbs (now (w .entry)) p x r ⌝ }
 {
     let near = parent(w, p, x);
@@ -43,7 +43,7 @@ fn later(a: usize, b: usize) -> usize
 
 // Joins the groups of the corners x and y: the later of their two roots gets the earlier for its parent.
 fn put_under(w: &mut [u32], p: usize, x: usize, y: usize)
-    requires { ⌜ (p + x < length (now w)) × (p + y < length (now w)) × (length (now w) < 2 ^ 32) ⌝ }
+    requires { ⌜ (p + x < length (now w)) × (p + y < length (now w)) × (length (now w) < 2 ^ 32) × Descends (now w) p ⌝ }
     ensures { λ _. ⌜ Regrouped (now (w .entry)) (now (w .exit)) p (λ labels. merge labels (link x y)) ⌝ }
 {
     let a = root(w, p, x);
@@ -54,7 +54,7 @@ fn put_under(w: &mut [u32], p: usize, x: usize, y: usize)
 
 // The same where the parents are lent alone, so that no step to a parent adds where their block starts.
 fn join(w: &mut [u32], p: usize, x: usize, y: usize)
-    requires { ⌜ (p + x < length (now w)) × (p + y < length (now w)) × (length (now w) < 2 ^ 32) ⌝ }
+    requires { ⌜ (p + x < length (now w)) × (p + y < length (now w)) × (length (now w) < 2 ^ 32) × Descends (now w) p ⌝ }
     ensures { λ _. ⌜ Regrouped (now (w .entry)) (now (w .exit)) p (λ labels. merge labels (link x y)) ⌝ }
 {
     put_under(&mut w[p..], 0, x, y);
@@ -62,7 +62,7 @@ fn join(w: &mut [u32], p: usize, x: usize, y: usize)
 
 // Joins across the regular edge whose two uses start at the corners e and m: the two corners at each of its endpoints.
 fn join_across(w: &mut [u32], c: usize, e: usize, m: usize)
-    requires { ⌜ TableWords (now w) c × (e < c) × (m < c) × (c < 2 ^ 30) ⌝ }
+    requires { ⌜ TableWords (now w) c × (e < c) × (m < c) × (c < 2 ^ 30) × Descends (now w) (3 * c) ⌝ }
     ensures { λ _. ⌜ Regrouped (now (w .entry)) (now (w .exit)) (3 * c) (λ labels. mergeAll labels (linksAcross (now (w .entry)) c e m)) ⌝ }
 {
     let f = w[e] as usize;
@@ -78,7 +78,7 @@ fn join_across(w: &mut [u32], c: usize, e: usize, m: usize)
 
 // Joins across every regular edge, each once, at its earlier use.
 fn join_edges(w: &mut [u32], c: usize)
-    requires { ⌜ TableWords (now w) c × (c < 2 ^ 30) ⌝ }
+    requires { ⌜ TableWords (now w) c × (c < 2 ^ 30) × Descends (now w) (3 * c) ⌝ }
     ensures { λ _. ⌜ Regrouped (now (w .entry)) (now (w .exit)) (3 * c) (λ labels. mergeAll labels (tableLinks (now (w .entry)) c)) ⌝ }
 {
     for e in 0..c {

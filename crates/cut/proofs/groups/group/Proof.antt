@@ -1,5 +1,6 @@
 -- `groups::group` meets its contract: from every corner its own parent on, the joins over the table give the labels of its links.
 use denote.Ref.{now}
+use Rattle.cut.proofs.Joined.{forest-descends}
 use Rattle.cut.proofs.JoinLoop.{table-kept, grouped}
 use borrow.Author.Needs.{needs}
 use Rattle.cut.proofs.groups.group.Statement.{statement}
@@ -15,7 +16,7 @@ join-edges-requires : tie.Need-join-edges-requires
 join-edges-requires c κs =
     let z = c .before .before .before .before .before .before in
     let s = c .before .before .before .separate in
-    (table-kept (now (z .args .w)) (z .args .c) (s .last .0) (s .ensures .0) (s .kept .0) (z .pre .0), z .pre .1)
+    (table-kept (now (z .args .w)) (z .args .c) (s .last .0) (s .ensures .0) (s .kept .0) (z .pre .0), z .pre .1, forest-descends _ _ _ (s .ensures .1))
 
 same-length : tie.Need-same-length
 same-length c = search needs

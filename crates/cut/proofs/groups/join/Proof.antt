@@ -3,7 +3,7 @@ use mathlib.Core.Path.{refl}
 use native.Mathlib.Omega.{arith}
 use borrow.Author.Needs.{needs}
 use denote.Ref.{now}
-use Rattle.cut.proofs.Joined.{regrouped-lent}
+use Rattle.cut.proofs.Joined.{descends-lent, regrouped-lent}
 use Rattle.cut.proofs.groups.join.Statement.{statement}
 use Rattle.cut.proofs.groups.join.Tie as tie
 
@@ -20,7 +20,9 @@ part-put-under-end : tie.Need-part-put-under-end
 part-put-under-end c = search needs
 
 put-under-requires : tie.Need-put-under-requires
-put-under-requires c κs = search needs
+put-under-requires c κs =
+    let z = c .before .before in
+    (search needs, search needs, search needs, descends-lent (now (z .args .w)) (z .args .p) _ (omega (arith, z .pre .0)) refl (z .pre .3))
 
 same-length : tie.Need-same-length
 same-length c = search needs

@@ -46,7 +46,9 @@ mul-join : tie.Need-mul-join
 mul-join c = search needs
 
 join-requires : tie.Need-join-requires
-join-requires c κs = search needs
+join-requires c κs =
+    let z = c .before .before .before .before .before .before .before in
+    (search needs, search needs, search needs, z .pre .4)
 
 mul-join-2 : tie.Need-mul-join-2
 mul-join-2 c = search needs
@@ -54,7 +56,10 @@ mul-join-2 c = search needs
 join-requires-2 : tie.Need-join-requires-2
 join-requires-2 c κs =
     let z = c .before .before .before .before .before .before .before .before .before .before .before in
-    omega (arith, z .pre .0 .nexts (z .args .e) (z .pre .1), z .pre .0 .nexts (z .args .m) (z .pre .2), c .before .before .before .join .kept .0)
+    let j = c .before .before .before .join in
+    let f = z .pre .0 .nexts (z .args .e) (z .pre .1) in
+    let g = z .pre .0 .nexts (z .args .m) (z .pre .2) in
+    (omega (arith, f, g, j .kept .0), omega (arith, f, g, j .kept .0), omega (arith, j .kept .0), j .ensures .down (z .pre .4))
 
 mul-join-3 : tie.Need-mul-join-3
 mul-join-3 c = search needs
@@ -62,7 +67,9 @@ mul-join-3 c = search needs
 join-requires-3 : tie.Need-join-requires-3
 join-requires-3 c κs =
     let z = c .before .before .before .before .before .before .before in
-    omega (arith, z .pre .0 .nexts (z .args .e) (z .pre .1), z .pre .0 .nexts (z .args .m) (z .pre .2))
+    let f = z .pre .0 .nexts (z .args .e) (z .pre .1) in
+    let g = z .pre .0 .nexts (z .args .m) (z .pre .2) in
+    (omega (arith, f, g), omega (arith, f, g), search needs, z .pre .4)
 
 mul-join-4 : tie.Need-mul-join-4
 mul-join-4 c = search needs
@@ -70,7 +77,10 @@ mul-join-4 c = search needs
 join-requires-4 : tie.Need-join-requires-4
 join-requires-4 c κs =
     let z = c .before .before .before .before .before .before .before .before .before .before .before in
-    omega (arith, z .pre .0 .nexts (z .args .e) (z .pre .1), z .pre .0 .nexts (z .args .m) (z .pre .2), c .before .before .before .join3 .kept .0)
+    let j = c .before .before .before .join3 in
+    let f = z .pre .0 .nexts (z .args .e) (z .pre .1) in
+    let g = z .pre .0 .nexts (z .args .m) (z .pre .2) in
+    (omega (arith, f, g, j .kept .0), omega (arith, f, g, j .kept .0), omega (arith, j .kept .0), j .ensures .down (z .pre .4))
 
 same-length : tie.Need-same-length
 same-length c = search needs

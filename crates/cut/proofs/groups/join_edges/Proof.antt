@@ -40,6 +40,7 @@ join-across-requires c κs =
       search needs,
       search needs,
       search needs,
+      at-loop .loop .inv .1 .regrouped .down (z .pre .2),
     )
 
 add-e : tie.Need-add-e Inv-loop μ-loop

@@ -1,6 +1,5 @@
 -- `groups::parent` meets its contract: a parent is in its child's group.
 use Prim.Native.Nat.{_+_}
-use mathlib.Core.Path.{refl}
 use native.Mathlib.Omega.{arith}
 use borrow.Author.Needs.{needs}
 use denote.Ref.{now}
@@ -22,11 +21,8 @@ cast-q c = omega (arith, c .shared-slice-known .given (c .before .args .p + c .b
 
 returns : tie.Need-returns
 returns c =
-    let z = c .before .before in
-    rises-parent (now (z .args .w)) (z .args .p) (z .args .x) (z .pre) (c .if1 .taken)
-
-returns-2 : tie.Need-returns-2
-returns-2 c = record { below = omega arith; along = λ f h. refl }
+    let z = c .before in
+    rises-parent (now (z .args .w)) (z .args .p) (z .args .x) (z .pre .0) (z .pre .1 (z .args .x) (z .pre .0))
 
 pub parent-spec : {M : Type 1} → statement M
-parent-spec = tie.close (tie.spec add-q mul-q shared-slice-read-q cast-q returns returns-2)
+parent-spec = tie.close (tie.spec add-q mul-q shared-slice-read-q cast-q returns)

@@ -9,10 +9,10 @@ use Rattle.cut.proofs.groups.put_under.Statement.{statement}
 use Rattle.cut.proofs.groups.put_under.Tie as tie
 
 root-requires : tie.Need-root-requires
-root-requires c κs = search needs
+root-requires c κs = let z = c .before .before in (z .pre .0, z .pre .3)
 
 root-requires-2 : tie.Need-root-requires-2
-root-requires-2 c κs = search needs
+root-requires-2 c κs = let z = c .before .before .before .before in (z .pre .1, z .pre .3)
 
 later-requires : tie.Need-later-requires
 later-requires c κs = search needs

@@ -17,7 +17,7 @@ parent-requires : tie.Need-parent-requires Inv-loop μ-loop
 parent-requires c κs = c .before .pre
 
 parent-requires-2 : tie.Need-parent-requires-2 Inv-loop μ-loop
-parent-requires-2 c κs = omega (arith, c .before .before .pre, c .parent .ensures .below)
+parent-requires-2 c κs = (omega (arith, c .before .before .pre .0, c .parent .ensures .below), c .before .before .pre .1)
 
 loop-holds : tie.Need-loop-holds Inv-loop μ-loop
 loop-holds c =
@@ -56,7 +56,7 @@ loop-again c =
     let l = c .before .before .before in
     let z = l .before .before .before .before in
     rises-on (now (z .args .w)) (z .args .p) (z .args .x) (l .loop .r) _ (l .loop .inv)
-    (rises-parent (now (z .args .w)) (z .args .p) (l .loop .r) (omega (arith, l .loop .inv .below)) (c .before .if1 .taken))
+    (rises-parent (now (z .args .w)) (z .args .p) (l .loop .r) (omega (arith, l .loop .inv .below)) (omega (arith, c .before .if1 .taken)))
 
 returns : tie.Need-returns Inv-loop μ-loop
 returns c = record { rises = c .before .before .loop .inv; stops = c .if1 .left }
