@@ -69,8 +69,21 @@ module _ (w : List ℕ) (p : ℕ) (labels : List ℕ) (F : Forest w p labels) (a
 pub rises-on : (w : List ℕ) (p x r q : ℕ) → Rises w p x r → Rises w p r q → Rises w p x q
 rises-on w p x r q R Q = record { below = omega (arith, R .below, Q .below); along = λ f h. Q .along f h ∙ R .along f h }
 
-pub rises-parent : (w : List ℕ) (p x : ℕ) → p + x < length w → at w (p + x) ≤ x → Rises w p x (at w (p + x))
+rises-parent : (w : List ℕ) (p x : ℕ) → p + x < length w → at w (p + x) ≤ x → Rises w p x (at w (p + x))
 rises-parent w p x h q = record { below = q; along = λ f g. g x h }
+
+-- the same where the parents stand alone
+zero-at : (w : List ℕ) (i : ℕ) → at w (0 + i) ≡ at w i
+zero-at w i = let z : 0 + i ≡ i = omega arith in ap (at w) z
+
+pub rises-here : (w : List ℕ) (x : ℕ) → x < length w → at w x ≤ x → Rises w 0 x (at w x)
+rises-here w x h q = subst (λ (k : ℕ). Rises w 0 x k) (zero-at w x) (rises-parent w 0 x (omega arith) (omega (arith, zero-at w x)))
+
+pub climbs-here : (w : List ℕ) (x r : ℕ) → Rises w 0 x r → r ≤ at w r → Climbs w 0 x r
+climbs-here w x r R h = record { rises = R; stops = omega (arith, zero-at w r) }
+
+pub descends-at : (w : List ℕ) (x : ℕ) → x < length w → Descends w 0 → at w x ≤ x
+descends-at w x h D = omega (arith, zero-at w x, D x (omega arith))
 
 pub forest-descends : (w : List ℕ) (p : ℕ) (labels : List ℕ) → Forest w p labels → Descends w p
 forest-descends w p labels F i h = F .down i (omega (arith, F .long))
@@ -101,7 +114,7 @@ module _ (w : List ℕ) (p : ℕ) (labels : List ℕ) (F : Forest w p labels) (x
 
 -- the join as the code makes it
 module _ (w : List ℕ) (p x y a b : ℕ) (hx : p + x < length w) (hy : p + y < length w) (A : Climbs w p x a) (B : Climbs w p y b) where
-  pub regrouped : Regrouped w (set w (p + max a b) (min a b)) p (λ labels. merge labels (link x y))
+  regrouped : Regrouped w (set w (p + max a b) (min a b)) p (λ labels. merge labels (link x y))
   regrouped =
       record {
         front = take-set-le p w (p + max a b) (min a b) (omega arith);
@@ -127,6 +140,11 @@ module _ (w : List ℕ) (p x y a b : ℕ) (hx : p + x < length w) (hy : p + y < 
           let lo : min a b ≡ b = omega arith in
           let hi : max a b ≡ a = omega arith in
           rw (lo, hi) (join-first w p labels F x y a b (omega (arith, F .long)) (omega (arith, F .long)) A B (omega arith))
+
+pub regrouped-alone : (w : List ℕ) (x y a b : ℕ) → x < length w → y < length w → Climbs w 0 x a → Climbs w 0 y b → Regrouped w (set w (max a b) (min a b)) 0 (λ labels. merge labels (link x y))
+regrouped-alone w x y a b hx hy A B =
+    let z : 0 + max a b ≡ max a b = omega arith in
+    subst (λ (k : ℕ). Regrouped w (set w k (min a b)) 0 (λ labels. merge labels (link x y))) z (regrouped w 0 x y a b (omega arith) (omega arith) A B)
 
 -- a join of the parents alone, which stand behind the first p words
 module _ (w s : List ℕ) (p : ℕ) (g : List ℕ → List ℕ) (h : p ≤ length w) (l : length s ≡ length (drop p w)) (R : Regrouped (drop p w) s 0 g) where

@@ -6,24 +6,23 @@ ghost use Rattle.cut.specs.Groups.{merge, mergeAll, upTo, labelsOf};
 ghost use Rattle.cut.specs.Forest.{Descends, Rises, Climbs, Regrouped, TableWords, Forest, link, linksAcross, tableLinks};
 
 // The parent of the corner x.
-fn parent(w: &[u32], p: usize, x: usize) -> usize
-    requires { ⌜ (p + x < length (now w)) × Descends (now w) p ⌝ }
-    ensures { λ r. ⌜ Rises (now (w .entry)) p x r ⌝ }
+fn parent(parents: &[u32], x: usize) -> usize
+    requires { ⌜ (x < length (now parents)) × Descends (now parents) 0 ⌝ }
+    ensures { λ r. ⌜ Rises (now (parents .entry)) 0 x r ⌝ }
 {
-    let q = w[p + x] as usize;
-    q
+    parents[x] as usize
 }
 
 // The corner at which the way from x over parents ends. It only reads. Most ways have at most two steps: those two are taken
 // without a test, since how many there are cannot be guessed.
-fn root(w: &[u32], p: usize, x: usize) -> usize
-    requires { ⌜ (p + x < length (now w)) × Descends (now w) p ⌝ }
-    ensures { λ r. ⌜ Climbs (now (w .entry)) p x r ⌝ }
+fn root(parents: &[u32], x: usize) -> usize
+    requires { ⌜ (x < length (now parents)) × Descends (now parents) 0 ⌝ }
+    ensures { λ r. ⌜ Climbs (now (parents .entry)) 0 x r ⌝ }
 {
-    let near = parent(w, p, x);
-    let mut r = parent(w, p, near);
-    while (w[p + r] as usize) < r {
-        r = w[p + r] as usize;
+    let near = parent(parents, x);
+    let mut r = parent(parents, near);
+    while (parents[r] as usize) < r {
+        r = parents[r] as usize;
     }
     r
 }
@@ -42,22 +41,22 @@ fn later(a: usize, b: usize) -> usize
 }
 
 // Joins the groups of the corners x and y: the later of their two roots gets the earlier for its parent.
-fn put_under(w: &mut [u32], p: usize, x: usize, y: usize)
-    requires { ⌜ (p + x < length (now w)) × (p + y < length (now w)) × (length (now w) < 2 ^ 32) × Descends (now w) p ⌝ }
-    ensures { λ _. ⌜ Regrouped (now (w .entry)) (now (w .exit)) p (λ labels. merge labels (link x y)) ⌝ }
+fn put_under(parents: &mut [u32], x: usize, y: usize)
+    requires { ⌜ (x < length (now parents)) × (y < length (now parents)) × (length (now parents) < 2 ^ 32) × Descends (now parents) 0 ⌝ }
+    ensures { λ _. ⌜ Regrouped (now (parents .entry)) (now (parents .exit)) 0 (λ labels. merge labels (link x y)) ⌝ }
 {
-    let a = root(w, p, x);
-    let b = root(w, p, y);
+    let a = root(parents, x);
+    let b = root(parents, y);
     let last = later(a, b);
-    w[p + last] = earlier(a, b) as u32;
+    parents[last] = earlier(a, b) as u32;
 }
 
-// The same where the parents are lent alone, so that no step to a parent adds where their block starts.
+// The same of the parents in the block that starts at p, which are lent alone: no step adds where their block starts.
 fn join(w: &mut [u32], p: usize, x: usize, y: usize)
     requires { ⌜ (p + x < length (now w)) × (p + y < length (now w)) × (length (now w) < 2 ^ 32) × Descends (now w) p ⌝ }
     ensures { λ _. ⌜ Regrouped (now (w .entry)) (now (w .exit)) p (λ labels. merge labels (link x y)) ⌝ }
 {
-    put_under(&mut w[p..], 0, x, y);
+    put_under(&mut w[p..], x, y);
 }
 
 // Joins across the regular edge whose two uses start at the corners e and m: the two corners at each of its endpoints.

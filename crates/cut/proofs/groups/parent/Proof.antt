@@ -1,28 +1,25 @@
--- `groups::parent` meets its contract: a parent is in its child's group.
-use Prim.Native.Nat.{_+_}
+-- `groups::parent` meets its contract: a parent is in its child's group, and not after it.
 use native.Mathlib.Omega.{arith}
 use borrow.Author.Needs.{needs}
 use denote.Ref.{now}
-use Rattle.cut.proofs.Joined.{rises-parent}
+use Rattle.cut.proofs.Joined.{rises-here, descends-at}
 use Rattle.cut.proofs.groups.parent.Statement.{statement}
 use Rattle.cut.proofs.groups.parent.Tie as tie
 
-add-q : tie.Need-add-q
-add-q c = search needs
+mul-result : tie.Need-mul-result
+mul-result c = search needs
 
-mul-q : tie.Need-mul-q
-mul-q c = search needs
+shared-slice-read-result : tie.Need-shared-slice-read-result
+shared-slice-read-result c = search needs
 
-shared-slice-read-q : tie.Need-shared-slice-read-q
-shared-slice-read-q c = search needs
-
-cast-q : tie.Need-cast-q
-cast-q c = omega (arith, c .shared-slice-known .given (c .before .args .p + c .before .args .x))
+cast-result : tie.Need-cast-result
+cast-result c = omega (arith, c .shared-slice-known .given (c .before .args .x))
 
 returns : tie.Need-returns
 returns c =
     let z = c .before in
-    rises-parent (now (z .args .w)) (z .args .p) (z .args .x) (z .pre .0) (z .pre .1 (z .args .x) (z .pre .0))
+    let ps = now (z .args .parents) in
+    rises-here ps (z .args .x) (z .pre .0) (descends-at ps (z .args .x) (z .pre .0) (z .pre .1))
 
 pub parent-spec : {M : Type 1} → statement M
-parent-spec = tie.close (tie.spec add-q mul-q shared-slice-read-q cast-q returns)
+parent-spec = tie.close (tie.spec mul-result shared-slice-read-result cast-result returns)

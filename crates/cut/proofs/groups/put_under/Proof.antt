@@ -1,10 +1,10 @@
 -- `groups::put_under` meets its contract: the roots of the two corners are their labels, and the later one goes under the earlier as `merge` has it.
-use Prim.Native.Nat.{_+_, _<_}
+use Prim.Native.Nat.{_<_}
 use native.Mathlib.Omega.{arith}
 use borrow.Author.Needs.{needs}
 use lib.ListN.{length}
 use denote.Ref.{now}
-use Rattle.cut.proofs.Joined.{regrouped}
+use Rattle.cut.proofs.Joined.{regrouped-alone}
 use Rattle.cut.proofs.groups.put_under.Statement.{statement}
 use Rattle.cut.proofs.groups.put_under.Tie as tie
 
@@ -20,25 +20,22 @@ later-requires c κs = search needs
 earlier-requires : tie.Need-earlier-requires
 earlier-requires c κs = search needs
 
--- both roots are not after their corners, so the later of them is in the block
-inside : (c : tie.After-later) → c .before .before .before .before .before .before .args .p + c .later .result < length (now (c .before .before .before .before .before .before .args .w))
+-- both roots are not after their corners, so the later of them has a parent
+inside : (c : tie.After-later) → c .later .result < length (now (c .before .before .before .before .before .before .args .parents))
 inside c =
     let z = c .before .before .before .before .before .before in
     omega (arith, c .later .ensures, c .before .root2 .ensures .rises .below, c .before .before .before .root .ensures .rises .below, z .pre .0, z .pre .1)
 
-cast-w : tie.Need-cast-w
-cast-w c =
+cast-parents : tie.Need-cast-parents
+cast-parents c =
     let r = c .before .before in
-    omega (arith, c .earlier .ensures, r .root2 .ensures .rises .below, r .before .before .root .ensures .rises .below, inside (c .before), r .before .before .before .before .before .pre .0, r .before .before .before .before .before .pre .2)
+    omega (arith, c .earlier .ensures, c .before .later .ensures, inside (c .before), r .before .before .before .before .before .pre .2)
 
-add-w : tie.Need-add-w
-add-w c = omega (arith, inside (c .before), c .before .before .before .before .before .before .before .pre .2)
+mul-parents : tie.Need-mul-parents
+mul-parents c = omega (arith, inside (c .before), c .before .before .before .before .before .before .before .pre .2)
 
-mul-w : tie.Need-mul-w
-mul-w c = omega (arith, inside (c .before), c .before .before .before .before .before .before .before .pre .2)
-
-slice-write-w : tie.Need-slice-write-w
-slice-write-w c = inside (c .before)
+slice-write-parents : tie.Need-slice-write-parents
+slice-write-parents c = inside (c .before)
 
 same-length : tie.Need-same-length
 same-length c = search needs
@@ -48,7 +45,7 @@ returns c =
     let r = c .before .before in
     let z = r .before .before .before .before .before in
     rw (c .before .later .ensures, c .earlier .ensures)
-    (regrouped (now (z .args .w)) (z .args .p) (z .args .x) (z .args .y) (r .before .before .root .result) (r .root2 .result) (z .pre .0) (z .pre .1) (r .before .before .root .ensures) (r .root2 .ensures))
+    (regrouped-alone (now (z .args .parents)) (z .args .x) (z .args .y) (r .before .before .root .result) (r .root2 .result) (z .pre .0) (z .pre .1) (r .before .before .root .ensures) (r .root2 .ensures))
 
 pub put-under-spec : {M : Type 1} → statement M
 put-under-spec =
@@ -58,9 +55,8 @@ put-under-spec =
     root-requires-2
     later-requires
     earlier-requires
-    cast-w
-    add-w
-    mul-w
-    slice-write-w
+    cast-parents
+    mul-parents
+    slice-write-parents
     same-length
     returns)

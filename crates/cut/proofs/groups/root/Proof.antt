@@ -1,17 +1,16 @@
--- `groups::root` meets its contract: each step goes to a parent, which is in the same group and earlier, and a corner whose parent is not earlier ends it.
-use Prim.Native.Nat.{_+_}
+-- `groups::root` meets its contract: each step goes to a parent, which is in the same group and not after it, and a corner whose parent is not earlier ends it.
 use denote.Ref.{now}
 use Rattle.cut.specs.Forest.{Rises}
 use native.Mathlib.Omega.{arith}
-use Rattle.cut.proofs.Joined.{rises-on, rises-parent}
+use Rattle.cut.proofs.Joined.{rises-on, rises-here, climbs-here}
 use Rattle.cut.proofs.groups.root.Statement.{statement}
 use Rattle.cut.proofs.groups.root.Tie as tie
 
 abbrev Inv-loop : tie.InvT-loop
-Inv-loop w p x near r₀ r = Rises w p x r
+Inv-loop parents x near r₀ r = Rises parents 0 x r
 
 abbrev μ-loop : tie.MeasureT-loop
-μ-loop w p x near r₀ r = r
+μ-loop parents x near r₀ r = r
 
 parent-requires : tie.Need-parent-requires Inv-loop μ-loop
 parent-requires c κs = c .before .pre
@@ -22,22 +21,16 @@ parent-requires-2 c κs = (omega (arith, c .before .before .pre .0, c .parent .e
 loop-holds : tie.Need-loop-holds Inv-loop μ-loop
 loop-holds c =
     let z = c .before .before .before in
-    rises-on (now (z .args .w)) (z .args .p) (z .args .x) (c .before .parent .result) (c .parent2 .result) (c .before .parent .ensures) (c .parent2 .ensures)
-
-add-if1 : tie.Need-add-if1 Inv-loop μ-loop
-add-if1 c = omega (arith, c .loop .inv .below)
+    rises-on (now (z .args .parents)) 0 (z .args .x) (c .before .parent .result) (c .parent2 .result) (c .before .parent .ensures) (c .parent2 .ensures)
 
 mul-if1 : tie.Need-mul-if1 Inv-loop μ-loop
-mul-if1 c = omega arith
+mul-if1 c = omega (arith, c .loop .inv .below)
 
 shared-slice-read-if1 : tie.Need-shared-slice-read-if1 Inv-loop μ-loop
 shared-slice-read-if1 c = omega (arith, c .before .loop .inv .below)
 
 cast-if1 : tie.Need-cast-if1 Inv-loop μ-loop
-cast-if1 c = omega (arith, c .shared-slice-known2 .given (c .before .before .before .before .before .args .p + c .before .loop .r))
-
-add-r : tie.Need-add-r Inv-loop μ-loop
-add-r c = omega (arith, c .before .before .loop .inv .below)
+cast-if1 c = omega (arith, c .shared-slice-known2 .given (c .before .loop .r))
 
 mul-r : tie.Need-mul-r Inv-loop μ-loop
 mul-r c = omega arith
@@ -55,11 +48,11 @@ loop-again : tie.Need-loop-again Inv-loop μ-loop
 loop-again c =
     let l = c .before .before .before in
     let z = l .before .before .before .before in
-    rises-on (now (z .args .w)) (z .args .p) (z .args .x) (l .loop .r) _ (l .loop .inv)
-    (rises-parent (now (z .args .w)) (z .args .p) (l .loop .r) (omega (arith, l .loop .inv .below)) (omega (arith, c .before .if1 .taken)))
+    let ps = now (z .args .parents) in
+    rises-on ps 0 (z .args .x) (l .loop .r) _ (l .loop .inv) (rises-here ps (l .loop .r) (omega (arith, l .loop .inv .below)) (omega (arith, c .before .if1 .taken)))
 
 returns : tie.Need-returns Inv-loop μ-loop
-returns c = record { rises = c .before .before .loop .inv; stops = c .if1 .left }
+returns c = climbs-here _ _ _ (c .before .before .loop .inv) (c .if1 .left)
 
 pub root-spec : {M : Type 1} → statement M
 root-spec =
@@ -70,11 +63,9 @@ root-spec =
     parent-requires
     parent-requires-2
     loop-holds
-    add-if1
     mul-if1
     shared-slice-read-if1
     cast-if1
-    add-r
     mul-r
     shared-slice-read-r
     cast-r
