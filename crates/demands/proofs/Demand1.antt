@@ -14,7 +14,7 @@ use Rattle.list.specs.Limits.{maxEntries}
 use Rattle.list.specs.Check.{checkOf}
 use Rattle.list.specs.Codes.{Row}
 use Rattle.list.proofs.Given as Given
-use Rattle.text.specs.Codes.{notOfTheForm, outOfRange, tooMany, tooLong, noRoom}
+use Rattle.number.specs.Codes.{notOfTheForm, outOfRange, tooMany, tooLong, noRoom}
 use Rattle.text.specs.Tokens.{tokens}
 use Rattle.text.specs.Reading.{readOf, readInto, roomOf, refused, accepted}
 use Rattle.text.specs.Faults.{Eleven, Twelve, Thirteen, Whole}

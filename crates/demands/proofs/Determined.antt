@@ -13,7 +13,7 @@ use Rattle.list.proofs.face_span.Reads as face-span
 use Rattle.list.proofs.face.Reads as face
 use Rattle.text.proofs.read.Reads as read
 use Rattle.text.proofs.write.Reads as write
-use Rattle.text.proofs.number.read_number.Reads as read-number
+use Rattle.number.proofs.read_number.Reads as read-number
 use Rattle.edges.proofs.faces_on.Reads as faces-on
 use Rattle.edges.proofs.edge_table.Reads as edge-table
 use Rattle.cut.proofs.classes.Reads as classes

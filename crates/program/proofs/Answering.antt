@@ -11,15 +11,15 @@ use lib.Dec.{leb}
 use lib.IntN.{ℤ}
 use lib.ListN.{length, take, drop, replicate, length-append}
 use lib.Seq.{take-at, take-append-seam}
-use Rattle.text.specs.Numbers.{isMinus, unsigned, magnitudeOf, greatest, signed, ofMagnitude, numberOf}
-use Rattle.text.specs.Codes.{outOfRange}
+use Rattle.number.specs.Numbers.{isMinus, unsigned, magnitudeOf, greatest, signed, ofMagnitude, numberOf}
+use Rattle.number.specs.Codes.{outOfRange}
 use Rattle.text.specs.Tokens.{Token, opening, closing, number, tokens}
 use Rattle.text.specs.Reading.{roomOf, opened, readOf, valueThen, valuesOf, entriesOf, over, readInto}
 use Rattle.text.specs.Writing.{Fits32, AllFit}
-use Rattle.text.specs.declared.number.Number.{Number}
-use Rattle.text.specs.declared.number.Number.the-variants.{Value, Refused}
+use Rattle.number.specs.declared.Number.{Number}
+use Rattle.number.specs.declared.Number.the-variants.{Value, Refused}
 use Rattle.text.specs.declared.ReadAnswer.{ReadAnswer}
-use Rattle.text.specs.Steps.{put}
+use Rattle.number.specs.Steps.{put}
 use Rattle.text.specs.Faults.{Whole, of-the-form}
 use Rattle.text.proofs.Whole.{inside-counts}
 use Rattle.text.proofs.Exactly.{Verdict, by-eleven, by-twelve, by-thirteen, by-none, verdict, eleven-exactly, twelve-exactly, thirteen-exactly, accepted-exactly}

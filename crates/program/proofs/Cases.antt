@@ -6,7 +6,7 @@ use mathlib.Core.Path.{_≡_, refl}
 use mathlib.Core.List.{List, [], _∷_}
 use Rattle.list.specs.Check.{checkOf, faceFault, checkFaces}
 use Rattle.text.specs.Reading.{readOf}
-use Rattle.text.specs.Writing.{width}
+use Rattle.number.specs.Decimal.{width}
 use Rattle.cut.specs.Groups.{groupLabels, fanLabels, links, labelsOf}
 use Rattle.cut.specs.Renumber.{newListOf, newNumbers, mapOf}
 use Rattle.cut.specs.Classes.{classesOf, classOf, fansAt, singularVertices}

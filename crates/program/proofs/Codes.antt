@@ -18,7 +18,7 @@ use Rattle.list.specs.declared.CheckAnswer.{CheckAnswer}
 use Rattle.list.specs.Limits.{maxEntries, maxVertices}
 use Rattle.text.specs.Tokens.{tokens}
 use Rattle.text.specs.Reading.{roomOf, readOf}
-use Rattle.text.specs.Writing.{decimalText}
+use Rattle.number.specs.Decimal.{decimalText}
 use Rattle.text.specs.declared.ReadAnswer.{ReadAnswer}
 use Rattle.text.proofs.Exactly.{Verdict, by-eleven, by-twelve, by-thirteen, by-none, verdict, eleven-exactly, twelve-exactly, thirteen-exactly, accepted-exactly}
 use Rattle.cut.specs.Cut.{wordsNeeded, cutRefused, cutAccepted, cutOf}

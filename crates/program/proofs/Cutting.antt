@@ -13,8 +13,8 @@ use lib.Seq.{take-at}
 use Rattle.list.specs.Faces.{corners}
 use Rattle.list.specs.Check.{checkOf}
 use Rattle.text.specs.Writing.{written, AllFit}
-use Rattle.text.specs.Steps.{put}
-use Rattle.text.proofs.Putting.{put-behind}
+use Rattle.number.specs.Steps.{put}
+use Rattle.number.proofs.Putting.{put-behind}
 use Rattle.cut.specs.Groups.{groupLabels}
 use Rattle.cut.specs.Renumber.{distinct, newListOf, mapOf}
 use Rattle.cut.specs.Cut.{wordsNeeded, cutRefused, cutAccepted, cutOf, over, isCut, cutList, cutMap}

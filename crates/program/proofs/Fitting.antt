@@ -8,10 +8,11 @@ use lib.Dec.{eqb}
 use lib.IntN.{ℤ, pos, negsuc}
 use lib.ListN.{length, getD, length-append, length-map}
 use Rattle.list.specs.Faces.{isEnd, corners}
-use Rattle.text.specs.Writing.{width, entryText, joint, itemText, entriesText, written, Fits32, AllFit}
-use Rattle.text.proofs.Putting.{digits-length}
+use Rattle.number.specs.Decimal.{width}
+use Rattle.text.specs.Writing.{entryText, joint, itemText, entriesText, written, Fits32, AllFit}
+use Rattle.number.proofs.Putting.{digits-length}
 use Rattle.cut.specs.Renumber.{distinct, placeIn, newNumbers, refilled, newListOf, mapOf}
-use Rattle.program.proofs.Lines.{width-within}
+use Rattle.number.proofs.Width.{width-within}
 
 pub fit-cons : (x : ℤ) (xs : List ℤ) → Fits32 x → AllFit xs → AllFit (x ∷ xs)
 fit-cons x xs f fs zero h = f

@@ -1,33 +1,21 @@
 -- Laws of a line of numbers: how long a number is, and one number more.
-use Prim.Native.Nat.{ℕ, zero, suc, _+_, _-_, _*_, _/_, _≤_, _<_, _^_}
+use Prim.Native.Nat.{ℕ, suc, _+_, _-_, _*_, _≤_, _<_, _^_}
 use mathlib.Core.Path.{_≡_, ap, sym, _∙_}
 use mathlib.Core.List.{List, [], _∷_, _++_, append-nil}
-use native.Mathlib.Nat.{pow-succ'}
 use native.Mathlib.Numerals.{add-one}
 use native.Mathlib.Omega.{arith}
-use native.Mathlib.Decide.{decLt}
 use lib.IntN.{ℤ}
 use lib.ListN.{length, getD, take, drop, set, length-append, length-drop, drop-of-length-le}
 use lib.Seq.{take-all, drop-cons, drop-drop}
 use Rattle.list.specs.Limits.{maxEntries}
-use Rattle.text.specs.Writing.{width, width-one, width-more, lowDigits, decimalText, written, acceptedWrite, writeOf, writeInto}
+use Rattle.number.specs.Decimal.{width, lowDigits, decimalText}
+use Rattle.text.specs.Writing.{written, acceptedWrite, writeOf, writeInto}
 use Rattle.text.specs.declared.WriteAnswer.{WriteAnswer}
-use Rattle.text.specs.Steps.{put}
-use Rattle.text.proofs.Putting.{digits-length, put-length, put-byte, put-behind}
+use Rattle.number.specs.Steps.{put}
+use Rattle.number.proofs.Width.{width-64}
+use Rattle.number.proofs.Putting.{digits-length, put-length, put-byte, put-behind}
 use Rattle.text.proofs.Writes.{write-fits, into-written}
 use Rattle.program.specs.Printed.{space, lineFeed, behind, numberText, line, listLine}
-
--- a number below 10 to the k-th has at most k digits
-pub width-within : (k n : ℕ) → n < 10 ^ suc k → width n ≤ suc k
-width-within zero n h = omega (arith, width-one n h)
-width-within (suc k) n h = go (decLt n 10) (λ r. width-within k (n / 10) r)
-  where
-    go : Dec (n < 10) → (n / 10 < 10 ^ suc k → width (n / 10) ≤ suc k) → width n ≤ suc (suc k)
-    go (yes s) r = omega (arith, width-one n s)
-    go (no s) r =
-        let p = pow-succ' 10 (suc k) in
-        let m : 10 ≤ n = omega arith in
-        omega (arith, width-more n m, r (omega arith))
 
 -- ---- the number at place i of a line
 
@@ -71,10 +59,7 @@ put-on at q a b w t t′ hw room hq ht =
 pub line-past : (xs : List ℕ) (i : ℕ) → length xs ≤ i → line (drop i xs) ≡ []
 line-past xs i h = rw (drop-of-length-le xs h)
 
--- a number of 64 bits has at most 20 digits, and a line of such numbers at most 21 bytes for each
-pub width-64 : (n : ℕ) → n < 2 ^ 64 → width n ≤ 20
-width-64 n h = width-within 19 n (omega arith)
-
+-- a line of numbers of 64 bits has at most 21 bytes for each
 pub line-short : (xs : List ℕ) → ((k : ℕ) → getD xs k 0 < 2 ^ 64) → length (line xs) ≤ 21 * length xs
 line-short [] f = omega arith
 line-short (x ∷ xs) f =

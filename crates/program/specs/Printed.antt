@@ -27,7 +27,8 @@ use lib.IntN.{ℤ, pos, negsuc}
 use lib.ListN.{length, drop, replicate}
 use Rattle.text.specs.Tokens.{tokens}
 use Rattle.text.specs.Reading.{readOf, entriesOf}
-use Rattle.text.specs.Writing.{decimalText, written, AllFit}
+use Rattle.number.specs.Decimal.{decimalText}
+use Rattle.text.specs.Writing.{written, AllFit}
 use Rattle.cut.specs.Groups.{groupLabels}
 use Rattle.cut.specs.Renumber.{newListOf, mapOf}
 use Rattle.cut.specs.Cut.{cutOf}

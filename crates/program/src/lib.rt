@@ -7,7 +7,7 @@ use cut::CutAnswer;
 ghost use mathlib.Core.Path.{_≡_};
 ghost use Prim.Native.Nat.{_≤_};
 ghost use lib.ListN.{length};
-ghost use Rattle.text.specs.Steps.{put};
+ghost use Rattle.number.specs.Steps.{put};
 ghost use Rattle.program.specs.Limits.{inputBytes, outputBytes};
 ghost use Rattle.program.specs.Printed.{line as Printed·line, refusal, cutNumbers, printedCut, Read, printed, responseOf};
 

@@ -1,38 +1,12 @@
 // The lines that the program prints: numbers in shortest decimal, and the text of a list.
+use number::decimal::digit_count;
+use number::decimal::put_digits;
 ghost use mathlib.Core.Path.{_≡_};
 ghost use Prim.Native.Nat.{_+_, _*_, _<_, _≤_};
 ghost use lib.ListN.{length, drop};
-ghost use Rattle.text.specs.Writing.{width, lowDigits};
-ghost use Rattle.text.specs.Steps.{put};
+ghost use Rattle.number.specs.Steps.{put};
 ghost use Rattle.program.specs.Limits.{inputEntries};
 ghost use Rattle.program.specs.Printed.{behind, numberText, line, listLine};
-
-// How many digits n has.
-fn digit_count(n: u64) -> usize
-    ensures { λ r. ⌜ (r ≡ width n) × (r ≤ 20) ⌝ }
-{
-    let mut rest = n;
-    let mut count: usize = 1;
-    while 10 <= rest {
-        rest /= 10;
-        count += 1;
-    }
-    count
-}
-
-// Puts the `count` lowest digits of n at `at`, the last one first.
-fn put_digits(output: &mut [u8], at: usize, count: usize, n: u64)
-    requires { ⌜ at + count ≤ length (now output) ⌝ }
-    ensures { λ _. ⌜ now (output .exit) ≡ put at (lowDigits count n) (now (output .entry)) ⌝ }
-{
-    let mut left = count;
-    let mut rest = n;
-    while 0 < left {
-        left -= 1;
-        output[at + left] = b'0' + (rest % 10) as u8;
-        rest /= 10;
-    }
-}
 
 // The byte behind number i: a space, or a line feed behind the last.
 fn byte_behind(numbers: &[u64], i: usize) -> u8

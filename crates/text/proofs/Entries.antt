@@ -8,10 +8,11 @@ use mathlib.Core.Bool.{Bool, true, false, cond}
 use lib.IntN.{ℤ, pos, natAbs}
 use lib.ListN.{length, drop, getD, set, length-append, length-set, drop-of-length-le}
 use lib.Seq.{drop-cons}
-use Rattle.text.specs.Bytes.{space, comma, minusByte, openByte, closeByte}
-use Rattle.text.specs.Writing.{width, lowDigits, isNegative, entryText, joint, itemText, entriesText, written}
-use Rattle.text.specs.Steps.{put}
-use Rattle.text.proofs.Putting.{digits-length, put-length, put-byte, put-behind}
+use Rattle.number.specs.Bytes.{space, comma, minusByte, openByte, closeByte}
+use Rattle.number.specs.Decimal.{width, lowDigits}
+use Rattle.text.specs.Writing.{isNegative, entryText, joint, itemText, entriesText, written}
+use Rattle.number.specs.Steps.{put}
+use Rattle.number.proofs.Putting.{digits-length, put-length, put-byte, put-behind}
 
 module _ (x : ℤ) (neg : Bool) (m d : ℕ) (hn : neg ≡ isNegative x) (hm : m ≡ natAbs x) (hd : d ≡ width m) where
   pub entry-text : entryText x ≡ cond neg (minusByte ∷ lowDigits d m) (lowDigits d m)

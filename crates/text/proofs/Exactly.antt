@@ -21,13 +21,13 @@ use lib.IntN.{ℤ}
 use lib.ListN.{length}
 use borrow.Author.Tests.{lt-ltb, le-ltb, le-leb, lt-leb}
 use Rattle.list.specs.Limits.{maxEntries}
-use Rattle.text.specs.Codes.{tooLong, notOfTheForm, outOfRange, tooMany, noRoom}
-use Rattle.text.specs.Numbers.{numberOf, magnitudeOf, unsigned, isMinus, signed, greatest}
+use Rattle.number.specs.Codes.{tooLong, notOfTheForm, outOfRange, tooMany, noRoom}
+use Rattle.number.specs.Numbers.{numberOf, magnitudeOf, unsigned, isMinus, signed, greatest}
 use Rattle.text.specs.Tokens.{Token, opening, closing, number, startOf, tokens}
 use Rattle.text.specs.Reading.{refused, accepted, roomOf, inside, opened, readOf}
 use Rattle.text.specs.Faults.{HasForm, NoForm, InRange, OutOfRange, Fine, none-left, one-more, Eleven, no-bracket, closed-first, number-first, never-closed, opened-twice, bad-number, second-thing, Twelve, too-large, Thirteen, no-room, Whole, of-the-form}
 use Rattle.text.specs.Writing.{written, refusedWrite, acceptedWrite, writeOf}
-use Rattle.text.specs.declared.number.Number.the-variants.{Value, Refused}
+use Rattle.number.specs.declared.Number.the-variants.{Value, Refused}
 use Rattle.text.specs.declared.ReadAnswer.{ReadAnswer}
 use Rattle.text.specs.declared.WriteAnswer.{WriteAnswer}
 use Rattle.text.proofs.Writes.{write-long, write-short, write-fits}

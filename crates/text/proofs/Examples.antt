@@ -6,7 +6,8 @@ use Prim.Native.Nat.{ℕ}
 use mathlib.Core.List.{List, [], _∷_, map}
 use lib.IntN.{pos, negsuc}
 use Rattle.text.specs.Reading.{refused, accepted, readOf, readInto}
-use Rattle.text.specs.Writing.{width, written, writeOf, refusedWrite, acceptedWrite}
+use Rattle.number.specs.Decimal.{width}
+use Rattle.text.specs.Writing.{written, writeOf, refusedWrite, acceptedWrite}
 use Rattle.text.specs.declared.ReadAnswer.{ReadAnswer}
 
 pub record Row : Type 0 where

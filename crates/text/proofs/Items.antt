@@ -11,18 +11,18 @@ use lib.Dec.{ltb, leb}
 use lib.ListN.{length, drop, getD}
 use lib.Seq.{drop-cons}
 use borrow.Author.Tests.{ne-eqb, eq-eqb}
-use Rattle.text.proofs.Bools.{clash}
-use Rattle.text.specs.Bytes.{openByte, closeByte, inNumber}
-use Rattle.text.specs.Codes.{notOfTheForm, outOfRange, tooMany}
-use Rattle.text.specs.Numbers.{numberBytes, numberOf, numberAt, codeOf, placeOf, magnitudeOf, unsigned, isMinus, signed, greatest, ofMagnitude}
+use Rattle.number.proofs.Bools.{clash}
+use Rattle.number.specs.Bytes.{openByte, closeByte, inNumber}
+use Rattle.number.specs.Codes.{notOfTheForm, outOfRange, tooMany}
+use Rattle.number.specs.Numbers.{numberBytes, numberOf, numberAt, codeOf, placeOf, magnitudeOf, unsigned, isMinus, signed, greatest, ofMagnitude}
 use Rattle.text.specs.Tokens.{Token, opening, closing, number, tokensAt}
 use Rattle.text.specs.Reading.{refused, accepted, behind, counted, inside, valuesOf, valueThen}
 use Rattle.text.specs.Steps.{blank, itemOf, itemOfNumber}
-use Rattle.text.specs.declared.number.Number.{Number}
-use Rattle.text.specs.declared.number.Number.the-variants.{Value, Refused}
+use Rattle.number.specs.declared.Number.{Number}
+use Rattle.number.specs.declared.Number.the-variants.{Value, Refused}
 use Rattle.text.specs.declared.ReadAnswer.{ReadAnswer}
 use Rattle.text.specs.declared.reader.Item.the-variants.{Entry, Closed, Fault}
-use Rattle.text.proofs.Runs.{run-within}
+use Rattle.number.proofs.Runs.{run-within}
 use Rattle.text.proofs.Lexing.{skip-tokens, skip-end, skip-byte, skip-token, in-number, number-tokens}
 
 -- ---- the things from place i on, by the byte at the first place q that does not separate

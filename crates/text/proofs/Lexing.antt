@@ -10,9 +10,9 @@ use lib.Dec.{eqb}
 use lib.ListN.{length, drop, getD, length-drop, drop-of-length-le}
 use lib.Seq.{drop-cons, drop-drop, getD-drop}
 use borrow.Author.Tests.{ne-eqb, eq-eqb, not-true}
-use Rattle.text.proofs.Bools.{clash, or-left, or-right}
-use Rattle.text.specs.Bytes.{hash, openByte, closeByte, isSeparator, inNumber, inComment, inGap}
-use Rattle.text.specs.Numbers.{numberBytes}
+use Rattle.number.proofs.Bools.{clash, or-left, or-right}
+use Rattle.number.specs.Bytes.{hash, openByte, closeByte, isSeparator, inNumber, inComment, inGap}
+use Rattle.number.specs.Numbers.{numberBytes}
 use Rattle.text.specs.Tokens.{Token, opening, closing, number, startOf, push, token, tokens, tokensAt}
 use Rattle.text.specs.Steps.{blank}
 

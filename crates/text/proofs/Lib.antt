@@ -1,13 +1,9 @@
 -- Laws that belong to no one function.
-pub mod Bools
-pub mod Runs
-pub mod Decimals
 pub mod Signs
 pub mod Lexing
 pub mod Items
 pub mod Filling
 pub mod Whole
-pub mod Putting
 pub mod Entries
 pub mod Writes
 pub mod RoundTrip

@@ -19,15 +19,16 @@ use lib.ListN.{length}
 use lib.Seq.{drop-append-seam}
 use borrow.Author.Tests.{ne-eqb, lt-ltb, le-leb, leb-true}
 use Rattle.list.specs.Limits.{maxEntries}
-use Rattle.text.specs.Bytes.{tab, lineFeed, carriageReturn, space, comma, hash, openByte, closeByte, zeroByte, nineByte, minusByte, plusByte, isDigit, inNumber}
-use Rattle.text.specs.Numbers.{numberBytes, isMinus, unsigned, decimal, magnitudeOf, greatest, numberOf}
+use Rattle.number.specs.Bytes.{tab, lineFeed, carriageReturn, space, comma, hash, openByte, closeByte, zeroByte, nineByte, minusByte, plusByte, isDigit, inNumber}
+use Rattle.number.specs.Numbers.{numberBytes, isMinus, unsigned, decimal, magnitudeOf, greatest, numberOf}
 use Rattle.text.specs.Tokens.{Token, number, tokens}
 use Rattle.text.specs.Reading.{accepted, roomOf, inside, readOf, valuesOf, over, readInto}
-use Rattle.text.specs.Writing.{width, width-one, width-more, decimalText, entryText, joint, entriesText, written, Fits32, AllFit}
-use Rattle.text.specs.declared.number.Number.the-variants.{Value}
+use Rattle.number.specs.Decimal.{width, width-one, width-more, decimalText}
+use Rattle.text.specs.Writing.{entryText, joint, entriesText, written, Fits32, AllFit}
+use Rattle.number.specs.declared.Number.the-variants.{Value}
 use Rattle.text.specs.declared.ReadAnswer.{ReadAnswer}
-use Rattle.text.proofs.Bools.{clash, and-left, and-right}
-use Rattle.text.proofs.Putting.{digits-length}
+use Rattle.number.proofs.Bools.{clash, and-left, and-right}
+use Rattle.number.proofs.Putting.{digits-length}
 use Rattle.text.proofs.Lexing.{number-run}
 
 -- ---- digits

@@ -1,51 +1,17 @@
--- A magnitude with its sign, and the way there and back in machine integers.
+-- An entry of a list, which fits 32 bits: its sign, and its magnitude by way of a 64-bit integer.
 use mathlib.Core.Path.{_≡_, refl, ap, _∙_}
-use Prim.Native.Nat.{ℕ, zero, suc, _≤_}
+use Prim.Native.Nat.{zero, suc}
 use native.Mathlib.Omega.{arith}
-use mathlib.Core.Bool.{Bool, true, false}
+use mathlib.Core.Bool.{true, false}
 use lib.Dec.{T}
 use lib.IntN.{ℤ, pos, negsuc, negℤ, natAbs, _-ℤ_, +ℤ-idl}
 use lib.Signed.{ltZ, nonNeg}
 use borrow.Author.Tests.{ltb-true, le-ltb}
-use Rattle.text.proofs.Bools.{clash}
+use Rattle.number.proofs.Bools.{clash}
 use Rattle.text.specs.Writing.{isNegative}
-use Rattle.text.specs.Numbers.{greatest}
 use mir.Syntax.{w32, w64}
 use mir.Val.{Fits, SFits, ofZ, toZ}
-use mir.ValLaws.{toZ-pos, toZ-ofZ}
-
-pub pos-fits32 : (m : ℕ) → m ≤ 2147483647 → SFits w32 (pos m)
-pos-fits32 m h = record { sfits = omega arith }
-
-pub pos-fits64 : (m : ℕ) → m ≤ 2147483648 → SFits w64 (pos m)
-pos-fits64 m h = record { sfits = omega arith }
-
-pub neg-fits32 : (m : ℕ) → m ≤ 2147483648 → SFits w32 (negℤ (pos m))
-neg-fits32 zero h = record { sfits = omega arith }
-neg-fits32 (suc k) h = record { sfits = omega arith }
-
-pub neg-fits64 : (m : ℕ) → m ≤ 2147483648 → SFits w64 (negℤ (pos m))
-neg-fits64 zero h = record { sfits = omega arith }
-neg-fits64 (suc k) h = record { sfits = omega arith }
-
-pub pos-read : (m : ℕ) → m ≤ 2147483648 → toZ w64 m ≡ pos m
-pos-read m h = toZ-pos w64 m (omega arith)
-
-pub neg-difference : (m : ℕ) → m ≤ 2147483648 → pos 0 -ℤ toZ w64 m ≡ negℤ (pos m)
-neg-difference m h = ap (λ (z : ℤ). pos 0 -ℤ z) (pos-read m h) ∙ +ℤ-idl (negℤ (pos m))
-
-pub neg-read : (m : ℕ) → m ≤ 2147483648 → toZ w64 (ofZ w64 (pos 0 -ℤ toZ w64 m)) ≡ negℤ (pos m)
-neg-read m h = ap (λ (z : ℤ). toZ w64 (ofZ w64 z)) (neg-difference m h) ∙ toZ-ofZ w64 (negℤ (pos m)) (neg-fits64 m h)
-
--- either sign's greatest magnitude is at most that of a minus
-pub within : (minus : Bool) (m : ℕ) → m ≤ greatest minus → m ≤ 2147483648
-within true m h = h
-within false m h = omega arith
-
-pub within-plus : (minus : Bool) (m : ℕ) → m ≤ greatest minus → minus ≡ false → m ≤ 2147483647
-within-plus minus m h e = rw e at h
-
--- ---- an entry of a list, which fits 32 bits, read as a 64-bit integer
+use mir.ValLaws.{toZ-ofZ}
 
 module _ (x : ℤ) (f : SFits w32 x) where
   pub entry-wide : SFits w64 (toZ w32 (ofZ w32 x))
@@ -72,11 +38,11 @@ module _ (x : ℤ) (f : SFits w32 x) where
   entry-minus = ap (λ (z : ℤ). toZ w64 (ofZ w64 z)) negated ∙ toZ-ofZ w64 (negℤ x) negated-fits
 
 -- the magnitude of an entry, by its sign
-pub below-zero : (x : ℤ) → SFits w32 x → ltZ x (pos 0) ≡ true → (T (nonNeg (negℤ x)) × Fits w32 (natAbs (negℤ x))) × (natAbs (negℤ x) ≡ natAbs x)
+pub below-zero : (x : ℤ) → SFits w32 x → ltZ x (pos 0) ≡ true → (T (nonNeg (negℤ x)) × Fits w64 (natAbs (negℤ x))) × (natAbs (negℤ x) ≡ natAbs x)
 below-zero (pos n) f e = absurd (omega (arith, ltb-true n 0 e))
 below-zero (negsuc n) f e = ((tt, record { fits = omega arith }), refl)
 
-pub not-below-zero : (x : ℤ) → SFits w32 x → ltZ x (pos 0) ≡ false → T (nonNeg x) × Fits w32 (natAbs x)
+pub not-below-zero : (x : ℤ) → SFits w32 x → ltZ x (pos 0) ≡ false → T (nonNeg x) × Fits w64 (natAbs x)
 not-below-zero (pos n) f e = (tt, record { fits = omega arith })
 not-below-zero (negsuc n) f e = clash (cc)
 

@@ -9,9 +9,9 @@ use mathlib.Core.Option.{some}
 use lib.Dec.{eqb}
 use lib.ListN.{length}
 use borrow.Author.Tests.{eqb-true}
-use Rattle.text.proofs.Bools.{clash}
-use Rattle.text.specs.Bytes.{plusByte, minusByte, zeroByte}
-use Rattle.text.specs.Numbers.{decimal, magnitudeOf}
+use Rattle.number.proofs.Bools.{clash}
+use Rattle.number.specs.Bytes.{plusByte, minusByte, zeroByte}
+use Rattle.number.specs.Numbers.{decimal, magnitudeOf}
 use Rattle.text.specs.Faults.{AllDigits, Sign, no-sign, plus, minus, Spelled, HasForm}
 use Rattle.text.proofs.RoundTrip.{first-digit, rest-decimal, digits-plain, digits-signed}
 

@@ -12,15 +12,15 @@ use lib.ListN.{length, take, getD}
 use lib.Seq.{take-all}
 use borrow.Author.Tests.{ltb-true, ltb-false, eqb-true, eqb-false, eq-eqb, ne-eqb}
 use native.Mathlib.Decide.{ℕ-discrete}
-use Rattle.text.proofs.Bools.{clash, and-left, and-right}
-use Rattle.text.specs.Bytes.{openByte, closeByte}
-use Rattle.text.specs.Codes.{notOfTheForm, outOfRange, tooMany}
-use Rattle.text.specs.Numbers.{numberOf, magnitudeOf, unsigned, isMinus, signed, greatest, ofMagnitude}
+use Rattle.number.proofs.Bools.{clash, and-left, and-right}
+use Rattle.number.specs.Bytes.{openByte, closeByte}
+use Rattle.number.specs.Codes.{notOfTheForm, outOfRange, tooMany}
+use Rattle.number.specs.Numbers.{numberOf, magnitudeOf, unsigned, isMinus, signed, greatest, ofMagnitude}
 use Rattle.text.specs.Tokens.{Token, opening, closing, number, tokens, tokensAt}
 use Rattle.text.specs.Reading.{refused, roomOf, behind, counted, inside, opened, readOf, valuesOf, valueThen, over, readInto}
 use Rattle.text.specs.Steps.{blank}
-use Rattle.text.specs.declared.number.Number.{Number}
-use Rattle.text.specs.declared.number.Number.the-variants.{Value, Refused}
+use Rattle.number.specs.declared.Number.{Number}
+use Rattle.number.specs.declared.Number.the-variants.{Value, Refused}
 use Rattle.text.specs.declared.ReadAnswer.{ReadAnswer}
 use Rattle.text.proofs.Lexing.{skip-end, skip-within}
 use Rattle.text.proofs.Items.{first-opens, first-closes, first-number}

@@ -1,18 +1,16 @@
 -- The three answers of the writer, and what each leaves in the buffer.
-use mathlib.Core.Path.{_≡_, refl, ap}
+use mathlib.Core.Path.{_≡_, ap}
 use Prim.Native.Nat.{ℕ, _≤_, _<_}
 use native.Mathlib.Nat.{zero-add}
 use native.Mathlib.Omega.{arith}
 use mathlib.Core.List.{List, _++_}
 use lib.IntN.{ℤ}
 use lib.ListN.{length, drop}
-use mathlib.Core.Bool.{Bool, true, false, cond}
-use lib.Dec.{ltb}
-use borrow.Author.Tests.{ltb-false, lt-ltb, le-ltb, eq-eqb, ne-eqb}
+use borrow.Author.Tests.{lt-ltb, le-ltb, eq-eqb, ne-eqb}
 use Rattle.list.specs.Limits.{maxEntries}
-use Rattle.text.specs.Codes.{tooLong, noRoom}
+use Rattle.number.specs.Codes.{tooLong, noRoom}
 use Rattle.text.specs.Writing.{written, refusedWrite, acceptedWrite, writeOf, writeInto}
-use Rattle.text.specs.Steps.{put}
+use Rattle.number.specs.Steps.{put}
 use Rattle.text.specs.declared.WriteAnswer.{WriteAnswer}
 
 module _ (l : List ℤ) (n : ℕ) where
@@ -27,17 +25,6 @@ module _ (l : List ℤ) (n : ℕ) where
   pub write-fits : length l ≤ maxEntries → length (written l) ≤ n → writeOf l n ≡ acceptedWrite (length (written l))
   unfolding writeOf
   write-fits h k = rw (le-ltb maxEntries (length l) h, le-ltb n (length (written l)) k)
-
-  -- accepted or not, the text that is answered lies within the buffer
-  pub write-within : writeOf l n .length ≤ n
-  unfolding writeOf
-  write-within = go (ltb maxEntries (length l)) (ltb n (length (written l))) refl
-    where
-      go : (a b : Bool) → ltb n (length (written l)) ≡ b
-          → cond a (refusedWrite tooLong 0) (cond b (refusedWrite noRoom (length (written l))) (acceptedWrite (length (written l)))) .length ≤ n
-      go true b e = omega arith
-      go false true e = omega arith
-      go false false e = ltb-false n (length (written l)) e
 
 module _ (l : List ℤ) (t : List ℕ) where
   pub into-kept : (c p : ℕ) → 0 < c → writeOf l (length t) ≡ refusedWrite c p → writeInto l t ≡ t

@@ -18,8 +18,8 @@ use mathlib.Core.List.{List, [], _∷_, _++_}
 use mathlib.Core.Option.{none, some}
 use lib.ListN.{length}
 use mathlib.Core.Bool.{true}
-use Rattle.text.specs.Bytes.{plusByte, minusByte, isDigit}
-use Rattle.text.specs.Numbers.{isMinus, unsigned, magnitudeOf, greatest}
+use Rattle.number.specs.Bytes.{plusByte, minusByte, isDigit}
+use Rattle.number.specs.Numbers.{isMinus, unsigned, magnitudeOf, greatest}
 use Rattle.text.specs.Tokens.{Token, opening, closing, number, startOf}
 
 abbrev pub AllDigits : List ℕ → Type 0

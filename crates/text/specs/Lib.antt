@@ -1,6 +1,3 @@
-pub mod Codes
-pub mod Bytes
-pub mod Numbers
 pub mod Tokens
 pub mod Reading
 pub mod Faults

@@ -20,11 +20,11 @@ use lib.IntN.{ℤ}
 use lib.ListN.{length, drop}
 use lib.Dec.{eqb, ltb}
 use Rattle.list.specs.Limits.{maxEntries}
-use Rattle.text.specs.Codes.{notOfTheForm, tooMany}
-use Rattle.text.specs.Numbers.{numberOf, codeOf, placeOf}
+use Rattle.number.specs.Codes.{notOfTheForm, tooMany}
+use Rattle.number.specs.Numbers.{numberOf, codeOf, placeOf}
 use Rattle.text.specs.Tokens.{Token, opening, closing, number, startOf, tokens}
-use Rattle.text.specs.declared.number.Number.{Number}
-use Rattle.text.specs.declared.number.Number.the-variants.{Value, Refused}
+use Rattle.number.specs.declared.Number.{Number}
+use Rattle.number.specs.declared.Number.the-variants.{Value, Refused}
 use Rattle.text.specs.declared.ReadAnswer.{ReadAnswer}
 
 abbrev pub refused : ℕ → ℕ → ReadAnswer

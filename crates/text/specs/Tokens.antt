@@ -11,7 +11,7 @@ use mathlib.Core.List.{List, [], _∷_}
 use mathlib.Core.Bool.{Bool, false, cond}
 use lib.ListN.{drop}
 use lib.Dec.{eqb}
-use Rattle.text.specs.Bytes.{openByte, closeByte, inComment, inGap}
+use Rattle.number.specs.Bytes.{openByte, closeByte, inComment, inGap}
 
 pub data Token : Type 0 where
   opening : ℕ → Token

@@ -1,9 +1,5 @@
 -- Writing a list as a text (document 01, "Text" and codes 1, 15).
 --
---   width n            how many digits n has in shortest decimal
---   widthWithin f n    the same, where f bounds how many are looked for
---   lowDigits k n      the k lowest decimal digits of n, as bytes
---   decimalText n      n in shortest decimal
 --   isNegative x       the entry x is below 0
 --   entryText x        the entry x in shortest decimal
 --   joint xs           what stands between an entry and the entries xs behind it: a comma and a space, or nothing behind the last
@@ -16,76 +12,18 @@
 --   writeInto l t      the text buffer afterwards: the text in front of what stays, or all as it was
 --   Fits32 x           the entry x is from -2,147,483,648 to 2,147,483,647
 --   AllFit l           so is every entry of l
-use mathlib.Core.Path.{_≡_, refl, ap, sym}
-use Prim.Native.Nat.{ℕ, zero, suc, _+_, _/_, _%_, _≤_, _<_}
-use native.Mathlib.Omega.{arith}
+use Prim.Native.Nat.{ℕ, suc, _≤_, _<_}
 use mathlib.Core.List.{List, [], _∷_, _++_}
 use mathlib.Core.Bool.{Bool, true, false, cond}
 use lib.IntN.{ℤ, pos, negsuc, natAbs}
 use lib.ListN.{length, drop, getD}
 use lib.Dec.{eqb, ltb}
-use borrow.Author.Tests.{lt-ltb, le-ltb, ltb-false}
 use Rattle.list.specs.Limits.{maxEntries}
-use Rattle.text.specs.Codes.{tooLong, noRoom}
-use Rattle.text.specs.Bytes.{space, comma, openByte, closeByte, minusByte, zeroByte}
-use Rattle.text.specs.Numbers.{greatest}
+use Rattle.number.specs.Codes.{tooLong, noRoom}
+use Rattle.number.specs.Bytes.{space, comma, openByte, closeByte, minusByte}
+use Rattle.number.specs.Numbers.{greatest}
+use Rattle.number.specs.Decimal.{decimalText}
 use Rattle.text.specs.declared.WriteAnswer.{WriteAnswer}
-
-abbrev pub widthWithin : ℕ → ℕ → ℕ
-widthWithin zero n = 1
-widthWithin (suc f) n = let r : ℕ = suc (widthWithin f (n / 10)) in cond (ltb n 10) 1 r
-
-unfoldable pub width : ℕ → ℕ
-width n = widthWithin n n
-
--- ---- the two equations of `width`, and a bound
-
-pub width-one : (n : ℕ) → n < 10 → width n ≡ 1
-unfolding width
-width-one n h = go n
-  where
-    go : (f : ℕ) → widthWithin f n ≡ 1
-    go zero = refl
-    go (suc f) = rw (lt-ltb n 10 h)
-
--- any bound that is large enough gives the same
-within-same : (f g n : ℕ) → n ≤ f → n ≤ g → widthWithin f n ≡ widthWithin g n
-within-same zero zero n p q = refl
-within-same zero (suc g) n p q = sym (rw (lt-ltb n 10 (omega arith)))
-within-same (suc f) zero n p q = rw (lt-ltb n 10 (omega arith))
-within-same (suc f) (suc g) n p q = go (ltb n 10) refl (λ a b. within-same f g (n / 10) a b)
-  where
-    go : (b : Bool) → ltb n 10 ≡ b → (n / 10 ≤ f → n / 10 ≤ g → widthWithin f (n / 10) ≡ widthWithin g (n / 10))
-        → cond (ltb n 10) 1 (suc (widthWithin f (n / 10))) ≡ cond (ltb n 10) 1 (suc (widthWithin g (n / 10)))
-    go true e h = rw e
-    go false e h = rw e (ap suc (h (omega (arith, ltb-false n 10 e)) (omega (arith, ltb-false n 10 e))))
-
-pub width-more : (n : ℕ) → 10 ≤ n → width n ≡ suc (width (n / 10))
-unfolding width
-width-more zero h = absurd (omega arith)
-width-more (suc m) h =
-    rw (le-ltb (suc m) 10 h) (ap suc (within-same m (suc m / 10) (suc m / 10) (omega arith) (omega arith)))
-
-pub width-bound : (n : ℕ) → width n ≤ suc n
-unfolding width
-width-bound n = go n n
-  where
-    go : (f k : ℕ) → widthWithin f k ≤ suc f
-    go zero k = omega arith
-    go (suc f) k = by (ltb k 10) (go f (k / 10))
-      where
-        by : (b : Bool) → widthWithin f (k / 10) ≤ suc f → cond b 1 (suc (widthWithin f (k / 10))) ≤ suc (suc f)
-        by true h = omega arith
-        by false h = omega arith
-
--- ---- the text of a list
-
-abbrev pub lowDigits : ℕ → ℕ → List ℕ
-lowDigits zero n = []
-lowDigits (suc k) n = lowDigits k (n / 10) ++ (zeroByte + n % 10) ∷ []
-
-abbrev pub decimalText : ℕ → List ℕ
-decimalText n = lowDigits (width n) n
 
 abbrev pub isNegative : ℤ → Bool
 isNegative (pos m) = false

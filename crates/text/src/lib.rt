@@ -1,7 +1,5 @@
 // The text of an index list: reading and writing.
-// It stands on `list` for the limits; programs and theorems may use it.
-mod bytes;
-pub mod number;
+// It stands on `list` for the limits and on `number`; programs and theorems may use it.
 mod reader;
 mod writer;
 

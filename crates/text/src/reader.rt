@@ -1,19 +1,19 @@
 // The text reader's steps: what stands at a place, the pass that only looks, and the pass that fills.
 use crate::ReadAnswer;
-use crate::bytes::CLOSE;
-use crate::bytes::OPEN;
-use crate::bytes::in_comment;
-use crate::bytes::in_gap;
-use crate::number::NOT_OF_THE_FORM;
-use crate::number::Number;
-use crate::number::read_number;
+use number::NOT_OF_THE_FORM;
+use number::Number;
+use number::bytes::CLOSE;
+use number::bytes::OPEN;
+use number::bytes::in_comment;
+use number::bytes::in_gap;
+use number::read_number;
 ghost use mathlib.Core.Path.{_≡_};
 ghost use mathlib.Core.Bool.{false, _&&_};
 ghost use Prim.Native.Nat.{_+_, _≤_};
 ghost use lib.Dec.{eqb, ltb};
 ghost use lib.ListN.{length, take, drop, getD};
-ghost use Rattle.text.specs.Bytes.{openByte};
-ghost use Rattle.text.specs.Numbers.{codeOf, placeOf};
+ghost use Rattle.number.specs.Bytes.{openByte};
+ghost use Rattle.number.specs.Numbers.{codeOf, placeOf};
 ghost use Rattle.text.specs.Tokens.{tokensAt};
 ghost use Rattle.text.specs.Reading.{refused, behind, inside, roomOf, valuesOf, over};
 ghost use Rattle.text.specs.Steps.{blank, itemOf};

@@ -1,16 +1,17 @@
 // The text writer's steps: how long the text is, and the text put into the buffer from its start.
 use crate::WriteAnswer;
-use crate::bytes::CLOSE;
-use crate::bytes::MINUS;
-use crate::bytes::OPEN;
-use crate::bytes::ZERO;
+use number::bytes::CLOSE;
+use number::bytes::MINUS;
+use number::bytes::OPEN;
+use number::decimal::digit_count;
+use number::decimal::put_digits;
 ghost use mathlib.Core.Path.{_≡_};
 ghost use Prim.Native.Nat.{_+_, _≤_, _<_};
 ghost use lib.IntN.{pos, natAbs};
 ghost use lib.ListN.{length, drop, getD};
 ghost use Rattle.list.specs.Limits.{maxEntries};
-ghost use Rattle.text.specs.Writing.{width, lowDigits, isNegative, entryText, itemText, written, refusedWrite};
-ghost use Rattle.text.specs.Steps.{put};
+ghost use Rattle.text.specs.Writing.{isNegative, entryText, itemText, written, refusedWrite};
+ghost use Rattle.number.specs.Steps.{put};
 
 pub fn refused_write(code: u32, place: usize) -> WriteAnswer
     ensures { λ r. ⌜ r ≡ refusedWrite code place ⌝ }
@@ -22,19 +23,6 @@ pub fn refused_write(code: u32, place: usize) -> WriteAnswer
     }
 }
 
-// How many digits `n` has.
-fn digit_count(n: u32) -> usize
-    ensures { λ r. ⌜ (r ≡ width n) × (r ≤ n + 1) ⌝ }
-{
-    let mut rest = n;
-    let mut count: usize = 1;
-    while 10 <= rest {
-        rest /= 10;
-        count += 1;
-    }
-    count
-}
-
 // Whether entry `i` is below 0.
 fn negative_at(list: &[i32], i: usize) -> bool
     requires { ⌜ i < length (now list) ⌝ }
@@ -44,18 +32,18 @@ fn negative_at(list: &[i32], i: usize) -> bool
 }
 
 // Entry `i` without its sign.
-fn magnitude_at(list: &[i32], i: usize) -> u32
+fn magnitude_at(list: &[i32], i: usize) -> u64
     requires { ⌜ i < length (now list) ⌝ }
     ensures { λ r. ⌜ r ≡ natAbs (getD (now (list .entry)) i (pos 0)) ⌝ }
 {
     let x = list[i] as i64;
-    if x < 0 { (0 - x) as u32 } else { x as u32 }
+    if x < 0 { (0 - x) as u64 } else { x as u64 }
 }
 
 // How long entry `i` is in shortest decimal.
 fn entry_length(list: &[i32], i: usize) -> usize
     requires { ⌜ i < length (now list) ⌝ }
-    ensures { λ r. ⌜ (r ≡ length (entryText (getD (now (list .entry)) i (pos 0)))) × (r ≤ 4294967298) ⌝ }
+    ensures { λ r. ⌜ (r ≡ length (entryText (getD (now (list .entry)) i (pos 0)))) × (r ≤ 21) ⌝ }
 {
     let count = digit_count(magnitude_at(list, i));
     if negative_at(list, i) {
@@ -68,7 +56,7 @@ fn entry_length(list: &[i32], i: usize) -> usize
 // How long entry `i` is with what stands behind it, up to the next entry.
 fn item_length(list: &[i32], i: usize) -> usize
     requires { ⌜ i < length (now list) ⌝ }
-    ensures { λ r. ⌜ (r ≡ length (itemText (drop i (now (list .entry))))) × (r ≤ 4294967300) ⌝ }
+    ensures { λ r. ⌜ (r ≡ length (itemText (drop i (now (list .entry))))) × (r ≤ 23) ⌝ }
 {
     let entry = entry_length(list, i);
     if i + 1 < list.len() { entry + 2 } else { entry }
@@ -86,20 +74,6 @@ pub fn text_length(list: &[i32]) -> usize
         i += 1;
     }
     total
-}
-
-// Puts the `count` lowest digits of `n` at `at`, the last one first.
-fn put_digits(text: &mut [u8], at: usize, count: usize, n: u32)
-    requires { ⌜ at + count ≤ length (now text) ⌝ }
-    ensures { λ _. ⌜ now (text .exit) ≡ put at (lowDigits count n) (now (text .entry)) ⌝ }
-{
-    let mut left = count;
-    let mut rest = n;
-    while 0 < left {
-        left -= 1;
-        text[at + left] = ZERO + (rest % 10) as u8;
-        rest /= 10;
-    }
 }
 
 // Puts entry `i` at `at` and answers the place behind it.

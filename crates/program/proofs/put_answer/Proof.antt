@@ -8,7 +8,7 @@ use lib.IntN.{pos}
 use lib.ListN.{length, take, replicate}
 use lib.Seq.{length-take-le}
 use Rattle.text.specs.Reading.{readOf}
-use Rattle.text.specs.Steps.{put}
+use Rattle.number.specs.Steps.{put}
 use Rattle.text.specs.declared.ReadAnswer.{ReadAnswer}
 use Rattle.program.specs.Limits.{inputBytes, inputEntries}
 use Rattle.program.specs.Printed.{line, refusal, printedCut, entriesIn}

@@ -7,7 +7,7 @@ use borrow.Author.Needs.{needs}
 use lib.IntN.{ℤ, pos}
 use lib.ListN.{length, take, replicate}
 use lib.Seq.{length-take-le}
-use Rattle.text.specs.Steps.{put}
+use Rattle.number.specs.Steps.{put}
 use Rattle.cut.specs.Groups.{groupLabels}
 use Rattle.cut.specs.Renumber.{newListOf}
 use Rattle.cut.specs.declared.CutAnswer.{CutAnswer}

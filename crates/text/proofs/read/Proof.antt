@@ -6,11 +6,11 @@ use native.Mathlib.Omega.{arith}
 use lib.Dec.{eqb, ltb}
 use lib.ListN.{length, take, getD}
 use borrow.Author.Tests.{not-true, not-false, ltb-true}
-use Rattle.text.specs.Bytes.{openByte}
+use Rattle.number.specs.Bytes.{openByte}
 use Rattle.text.specs.Tokens.{tokensAt}
 use Rattle.text.specs.Reading.{readOf, valuesOf, over}
 use Rattle.text.specs.declared.ReadAnswer.{ReadAnswer}
-use Rattle.text.proofs.Bools.{and-left}
+use Rattle.number.proofs.Bools.{and-left}
 use Rattle.text.proofs.Whole.{whole-unopened, read-inside, read-entries, read-fits, into-refused, refused-not}
 use borrow.Author.Needs.{needs}
 use Rattle.text.proofs.read.Statement.{statement}

@@ -4,7 +4,7 @@ use Prim.Native.Nat.{_≤_}
 use native.Mathlib.Omega.{arith}
 use lib.ListN.{length}
 use Rattle.list.specs.Limits.{maxEntries}
-use Rattle.text.specs.Codes.{tooLong, noRoom}
+use Rattle.number.specs.Codes.{tooLong, noRoom}
 use Rattle.text.specs.Writing.{written, refusedWrite, acceptedWrite}
 use Rattle.text.proofs.Writes.{write-long, write-short, write-fits, into-kept, into-written, put-front}
 use borrow.Author.Needs.{needs}

@@ -3,8 +3,8 @@ use Prim.Native.Nat.{_+_, _-_, _*_, _≤_}
 use mathlib.Core.Path.{_≡_, refl, ap, sym, _∙_}
 use native.Mathlib.Omega.{arith}
 use lib.ListN.{length, drop, length-append}
-use Rattle.text.specs.Steps.{put}
-use Rattle.text.proofs.Putting.{put-none}
+use Rattle.number.specs.Steps.{put}
+use Rattle.number.proofs.Putting.{put-none}
 use Rattle.program.specs.Printed.{numberText, line}
 use Rattle.program.proofs.Lines.{line-at-place, line-past, line-short, put-on}
 use Rattle.program.proofs.line.put_line.Statement.{statement}

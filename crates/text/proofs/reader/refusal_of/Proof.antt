@@ -1,7 +1,7 @@
 -- `text::reader::refusal_of` meets its contract: each arm is a case of the definitions.
 use mathlib.Core.Path.{ap, sym}
-use Rattle.text.specs.Numbers.{codeOf, placeOf}
-use Rattle.text.specs.declared.number.Number.{Number}
+use Rattle.number.specs.Numbers.{codeOf, placeOf}
+use Rattle.number.specs.declared.Number.{Number}
 use Rattle.text.specs.declared.reader.Item.{Item}
 use Rattle.text.specs.declared.reader.Item.the-variants.{Fault}
 use borrow.Author.Needs.{needs}

@@ -4,7 +4,7 @@ use mathlib.Core.List.{[], _∷_}
 use native.Mathlib.Omega.{arith}
 use lib.IntN.{pos}
 use lib.ListN.{length, getD, length-append}
-use Rattle.text.specs.Bytes.{space, comma}
+use Rattle.number.specs.Bytes.{space, comma}
 use Rattle.text.specs.Writing.{entryText}
 use Rattle.text.proofs.Entries.{item-joined, item-last}
 use borrow.Author.Needs.{needs}

@@ -6,10 +6,11 @@ use Prim.Native.Nat.{ℕ, _+_}
 use native.Mathlib.Omega.{arith}
 use lib.IntN.{ℤ, pos}
 use lib.ListN.{length, getD, length-set}
-use Rattle.text.specs.Bytes.{minusByte}
-use Rattle.text.specs.Writing.{lowDigits, entryText}
-use Rattle.text.specs.Steps.{put}
-use Rattle.text.proofs.Putting.{put-byte, put-behind, digits-length}
+use Rattle.number.specs.Bytes.{minusByte}
+use Rattle.number.specs.Decimal.{lowDigits}
+use Rattle.text.specs.Writing.{entryText}
+use Rattle.number.specs.Steps.{put}
+use Rattle.number.proofs.Putting.{put-byte, put-behind, digits-length}
 use Rattle.text.proofs.Entries.{entry-text, entry-long}
 use borrow.Author.Needs.{needs}
 use Rattle.text.proofs.writer.put_entry.Statement.{statement}

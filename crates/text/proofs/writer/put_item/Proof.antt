@@ -5,7 +5,7 @@ use Prim.Native.Nat.{suc, _+_}
 use native.Mathlib.Omega.{arith}
 use lib.IntN.{pos}
 use lib.ListN.{length, drop, getD, length-append, length-set}
-use Rattle.text.specs.Bytes.{space, comma}
+use Rattle.number.specs.Bytes.{space, comma}
 use Rattle.text.specs.Writing.{entryText, joint, itemText}
 use Rattle.text.proofs.Entries.{item-at-place, item-joined, item-last, item-put}
 use borrow.Author.Needs.{needs}

@@ -6,7 +6,7 @@ use native.Mathlib.Omega.{arith}
 use lib.IntN.{ℤ}
 use lib.ListN.{length, drop, length-append, length-set, drop-of-length-le}
 use Rattle.text.specs.Writing.{itemText, entriesText}
-use Rattle.text.specs.Steps.{put}
+use Rattle.number.specs.Steps.{put}
 use Rattle.text.proofs.Entries.{entries-at-place, put-turn, put-whole}
 use Rattle.text.proofs.writer.put_text.Statement.{statement}
 use Rattle.text.proofs.writer.put_text.Tie as tie

@@ -13,7 +13,7 @@ use Rattle.text.proofs.writer.text_length.Tie as tie
 
 abbrev Inv-loop : tie.InvT-loop
 Inv-loop list total₀ i₀ total i =
-    (i ≤ length list) × (total + length (entriesText (drop i list)) ≡ 2 + length (entriesText list)) × (total ≤ 2 + i * 4294967300)
+    (i ≤ length list) × (total + length (entriesText (drop i list)) ≡ 2 + length (entriesText list)) × (total ≤ 2 + i * 23)
 
 abbrev μ-loop : tie.MeasureT-loop
 μ-loop list total₀ i₀ total i = length list - i
