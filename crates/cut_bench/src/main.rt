@@ -8,6 +8,42 @@ ghost use Rattle.list.specs.Limits.{maxEntries};
 
 const LIMIT: usize = list::IndexList::MAX_ENTRIES;
 
+// Two tetrahedra on one edge.
+const BODIES: [i32; 32] = [
+    0,
+    1,
+    2,
+    -1,
+    0,
+    3,
+    1,
+    -1,
+    0,
+    2,
+    3,
+    -1,
+    1,
+    3,
+    2,
+    -1,
+    0,
+    1,
+    4,
+    -1,
+    0,
+    5,
+    1,
+    -1,
+    0,
+    4,
+    5,
+    -1,
+    1,
+    5,
+    4,
+    -1,
+];
+
 fn print_number(n: usize, end: &[u8]) {
     io::print_decimal(STDOUT_FILENO, n as u64);
     io::write_all(STDOUT_FILENO, end);
@@ -137,56 +173,28 @@ fn large() {
     show_large(&list, 16392, &mut new_list, &mut map, &mut work);
 }
 
-fn main() {
+fn accepted() {
     show(&[], 0);
     show(&[7, 3, 9, -1], 10);
     show(&[0, 1, 2, -1, 2, 1, 3, -1], 4);
     show(&[0, 1, 2, -1, 1, 2, 3], 4);
     show(&[0, 1, 2, -1, 0, 3, 4, -1], 5);
     show(&[0, 1, 2, -1, 0, 1, 3, -1, 0, 1, 4, -1], 5);
-    show(
-        &[
-            0,
-            1,
-            2,
-            -1,
-            0,
-            3,
-            1,
-            -1,
-            0,
-            2,
-            3,
-            -1,
-            1,
-            3,
-            2,
-            -1,
-            0,
-            1,
-            4,
-            -1,
-            0,
-            5,
-            1,
-            -1,
-            0,
-            4,
-            5,
-            -1,
-            1,
-            5,
-            4,
-            -1,
-        ],
-        6,
-    );
+    show(&BODIES, 6);
     show(&[0, 1, 2, -1, 0, 2, 1, -1], 3);
+}
+
+fn refused() {
     show(&[0, 1, -1], 2);
     show(&[-1], 0);
     show(&[0, 1, 2, -1, -1], 3);
     show(&[0, 1, 5, -1], 5);
     show(&[0, 1, 5, -1], 6);
     show(&[0, 0, -2], 3);
+}
+
+fn main() {
+    accepted();
+    refused();
     large();
 }

@@ -10,6 +10,42 @@ const LIMIT: usize = list::IndexList::MAX_ENTRIES;
 // The corners of the longest lists: three of each four entries.
 const CORNERS: usize = LIMIT / 4 * 3;
 
+// Two tetrahedra on one edge.
+const BODIES: [i32; 32] = [
+    0,
+    1,
+    2,
+    -1,
+    0,
+    3,
+    1,
+    -1,
+    0,
+    2,
+    3,
+    -1,
+    1,
+    3,
+    2,
+    -1,
+    0,
+    1,
+    4,
+    -1,
+    0,
+    5,
+    1,
+    -1,
+    0,
+    4,
+    5,
+    -1,
+    1,
+    5,
+    4,
+    -1,
+];
+
 pub struct Made {
     pub code: u32,
     pub corners: usize,
@@ -134,50 +170,20 @@ fn show_long(step: usize, fan: bool, n: usize)
     print_number(sum(&work, 3 * CORNERS, 4 * CORNERS), b"\n");
 }
 
-fn main() {
+fn tables() {
     show(&[], 0);
     show(&[7, 3, 9, -1], 10);
     show(&[0, 1, 2, -1, 2, 1, 3, -1], 4);
     show(&[0, 1, 2, -1, 1, 2, 3], 4);
     show(&[0, 1, 2, -1, 0, 3, 4, -1], 5);
     show(&[0, 1, 2, -1, 0, 1, 3, -1, 0, 1, 4, -1], 5);
-    let bodies = [
-        0,
-        1,
-        2,
-        -1,
-        0,
-        3,
-        1,
-        -1,
-        0,
-        2,
-        3,
-        -1,
-        1,
-        3,
-        2,
-        -1,
-        0,
-        1,
-        4,
-        -1,
-        0,
-        5,
-        1,
-        -1,
-        0,
-        4,
-        5,
-        -1,
-        1,
-        5,
-        4,
-        -1,
-    ];
-    show(&bodies, 6);
+    show(&BODIES, 6);
     show(&[0, 1, 2, -1, 0, 2, 1, -1], 3);
     show(&[0, 1, -1], 2);
+}
+
+fn questions() {
+    let bodies = BODIES;
     ask(&bodies, 6, 0, 1);
     ask(&bodies, 6, 2, 0);
     ask(&bodies, 6, 2, 4);
@@ -185,6 +191,11 @@ fn main() {
     ask(&bodies, 6, -1, 0);
     ask(&bodies, 6, 0, 6);
     ask(&[0, 1, 2, -1, 0, 3, 0, -1], 4, 1, 1);
+}
+
+fn main() {
+    tables();
+    questions();
     show_long(1, false, 16386);
     show_long(3, false, 49156);
     show_long(3, true, list::IndexList::MAX_VERTICES);

@@ -69,7 +69,7 @@ fn show_too_long() {
     print_answer(answer.code, answer.place, answer.length);
 }
 
-fn valid() {
+fn values() {
     show(b"[-2147483648]");
     show(b"[2147483647]");
     show(b"[]");
@@ -78,6 +78,9 @@ fn valid() {
     show(b"[-0 +07]");
     show(b"[0000000000000000001]");
     show(b"[-0000000002147483648,+2147483647]");
+}
+
+fn separators() {
     show(b"[1,2]");
     show(b"[1 ,, 2]");
     show(b"[1\t2\n3\r4]");
@@ -88,7 +91,7 @@ fn valid() {
     show(b"[0, 1, 2, -1]");
 }
 
-fn damaged() {
+fn brackets_missing() {
     show(b"");
     show(b"#");
     show(b" \n");
@@ -98,25 +101,34 @@ fn damaged() {
     show(b"  1 [2]");
     show(b"[1");
     show(b"[1 # ]");
+}
+
+fn brackets_doubled() {
     show(b"[1 [2]]");
     show(b"[[1]]");
     show(b"[1]]");
     show(b"[1] [2]");
     show(b"[1] 2");
     show(b"[1] x # y");
+}
+
+fn out_of_range() {
     show(b"[2147483648]");
     show(b"[-2147483649]");
     show(b"[99999999999999999999999999999999]");
     show(b"[1, 00000000004294967296, x]");
 }
 
-fn bad_numbers() {
+fn bad_signs() {
     show(b"[1 + 2]");
     show(b"[-]");
     show(b"[--1]");
     show(b"[+-1]");
     show(b"[0x1]");
     show(b"[1-2]");
+}
+
+fn bad_bytes() {
     show(b"[1.0]");
     show(b"[{1]");
     show(b"[1;2]");
@@ -126,7 +138,7 @@ fn bad_numbers() {
     show(b"[2147483648 a]");
 }
 
-fn limits() {
+fn room() {
     show(b"[1 2 3 4]");
     show(b"[1 2 3 4 5]");
     show(b"[1 2 3 4 x]");
@@ -136,6 +148,9 @@ fn limits() {
     show(b"[1 2 3 4 5 x]");
     show_many(LIMIT);
     show_many(LIMIT + 1);
+}
+
+fn written() {
     show_written(&[1, -2147483648]);
     show_written(&[12, -345, 6]);
     show_written(&[12, -34, 6]);
@@ -145,8 +160,13 @@ fn limits() {
 }
 
 fn main() {
-    valid();
-    damaged();
-    bad_numbers();
-    limits();
+    values();
+    separators();
+    brackets_missing();
+    brackets_doubled();
+    out_of_range();
+    bad_signs();
+    bad_bytes();
+    room();
+    written();
 }
