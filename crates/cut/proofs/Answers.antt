@@ -11,11 +11,12 @@ use Rattle.list.specs.Faces.{corners}
 use Rattle.list.specs.Check.{checkOf, Valid}
 use Rattle.list.specs.declared.CheckAnswer.{CheckAnswer}
 use Rattle.list.proofs.Given.{accepted-exactly-when, accepted-counts}
-use Rattle.cut.specs.Groups.{groupLabels}
-use Rattle.cut.specs.Renumber.{newListOf}
-use Rattle.cut.specs.Classes.{classesOf}
-use Rattle.cut.specs.Cut.{over, classesRefused, classesAnswer, classesBytes, classesWork, cutRefused, cutOf, cutList, cutMap, cutWork}
-use Rattle.cut.specs.Forest.{CutMade}
+use Rattle.groups.specs.Groups.{groupLabels}
+use Rattle.renumber.specs.Renumber.{newListOf}
+use Rattle.fans.specs.Classes.{classesOf}
+use Rattle.renumber.specs.Written.{over}
+use Rattle.cut.specs.Cut.{classesRefused, classesAnswer, classesBytes, classesWork, cutRefused, cutOf, cutList, cutMap, cutWork}
+use Rattle.cut.specs.Made.{CutMade}
 use Rattle.cut.specs.declared.CutAnswer.{CutAnswer}
 use Rattle.cut.specs.declared.ClassesAnswer.{ClassesAnswer}
 

@@ -15,17 +15,20 @@ use Rattle.edges.specs.Choose.{All, choose, count}
 use Rattle.edges.specs.Uses.{singularEdges}
 use Rattle.edges.proofs.Lists.{all-at, choose-few}
 use Rattle.edges.proofs.Uses.{uses-long}
-use Rattle.cut.specs.Groups.{countFrom, upTo, groupLabels}
-use Rattle.cut.specs.Renumber.{placeIn, distinct, mapOf}
-use Rattle.cut.specs.Classes.{classOf, classesOf, isSingularClass, singularVertices}
-use Rattle.cut.specs.Forest.{at, Forest, VertexWords, CornerWords, Grouped, isRoot, rootVertices, Renumbered, GroupsCut, CutMade}
-use Rattle.cut.specs.Marks.{rootsOn, marksEnd, boundaryWord, singularWord}
-use Rattle.cut.specs.Singular.{isSingularMark, afterFans, EndsCounted, FansCounted}
-use Rattle.cut.proofs.Counting.{map-at, length-countFrom, at-countFrom}
-use Rattle.cut.proofs.Numbering.{map-of-roots}
-use Rattle.cut.proofs.SingularCount.{mark-class, count-same}
-use Rattle.cut.proofs.Classing.{grouped-class}
-use Rattle.cut.proofs.Grouping.{words-of-groups, corner-words, groups-are-fans}
+use Rattle.groups.specs.Groups.{countFrom, upTo, groupLabels, fanLabels}
+use Rattle.groups.specs.Distinct.{placeIn, distinct}
+use Rattle.renumber.specs.Renumber.{mapOf}
+use Rattle.fans.specs.Classes.{classOf, classesOf, isSingularClass, singularVertices}
+use Rattle.groups.specs.Forest.{at, Forest, VertexWords, Grouped, isRoot}
+use Rattle.renumber.specs.Numbered.{CornerWords, rootVertices, Renumbered}
+use Rattle.cut.specs.Made.{GroupsCut, CutMade}
+use Rattle.fans.specs.Marks.{rootsOn, marksEnd, boundaryWord, singularWord}
+use Rattle.fans.specs.Singular.{isSingularMark, afterFans, EndsCounted, FansCounted}
+use Rattle.groups.proofs.Counting.{map-at, length-countFrom, at-countFrom}
+use Rattle.renumber.proofs.Numbering.{map-of-roots}
+use Rattle.fans.proofs.SingularCount.{mark-class, count-same}
+use Rattle.fans.proofs.Classing.{grouped-class}
+use Rattle.cut.proofs.Words.{words-of-groups, corner-words}
 
 -- m marks that are all 0, and the part for n vertices
 abbrev pub zeros : ℕ → List ℕ
@@ -73,6 +76,11 @@ module _ (w : List ℕ) (c : ℕ) where
       go true true d e ih = rw (d, e) (ap suc ih)
       go true false d e ih = rw (d, e) ih
       go false u d e ih = rw d ih
+
+-- the cut's groups are the fans
+groups-are-fans : (l : List ℤ) → fanLabels l ≡ groupLabels l
+unfolding fanLabels groupLabels
+groups-are-fans l = refl
 
 module _ (l : List ℤ) (n c : ℕ) (ok : Valid l n) (w : List ℕ) (G : Grouped l c w) where
   corners-are : c ≡ length (corners l)

@@ -1,15 +1,3 @@
-pub mod Counting
-pub mod Filled
-pub mod Joined
-pub mod JoinLoop
-pub mod Roots
-pub mod Numbering
-pub mod TableLinks
-pub mod Marking
-pub mod SingularCount
-pub mod Classing
-pub mod Grouping
-pub mod NoSingular
+pub mod Words
 pub mod Cutting
 pub mod Answers
-pub mod Walk

@@ -3,21 +3,21 @@
 --
 --   cutOf l n a b w        the cut's answer for buffers of a, b and w: new list, map, work
 --   classesAnswer l n b w  the class call's answer for buffers of b and w: classes, work
---   over xs old            the buffer old with xs written at its start
 --   cutList, cutMap, cutWork        the new list's, the map's and the work's content after the cut
 --   classesBytes, classesWork       the class buffer's and the work's content after the class call
-use Prim.Native.Nat.{ℕ, _+_, _*_}
-use mathlib.Core.List.{List, [], _∷_, _++_}
-use mathlib.Core.Bool.{Bool, true, false, cond}
+use Prim.Native.Nat.{ℕ, _*_}
+use mathlib.Core.List.{List}
+use mathlib.Core.Bool.{Bool, cond}
 use lib.Dec.{ltb, eqb}
 use lib.IntN.{ℤ}
-use lib.ListN.{length, drop, replicate}
+use lib.ListN.{length, replicate}
 use Rattle.list.specs.Faces.{corners}
 use Rattle.list.specs.Check.{checkOf}
 use Rattle.edges.specs.Uses.{singularEdges}
-use Rattle.cut.specs.Groups.{groupLabels}
-use Rattle.cut.specs.Renumber.{newListOf, newVertices, mapOf}
-use Rattle.cut.specs.Classes.{classesOf, singularVertices}
+use Rattle.groups.specs.Groups.{groupLabels}
+use Rattle.renumber.specs.Renumber.{newListOf, newVertices, mapOf}
+use Rattle.renumber.specs.Written.{over}
+use Rattle.fans.specs.Classes.{classesOf, singularVertices}
 use Rattle.cut.specs.declared.CutAnswer.{CutAnswer}
 use Rattle.cut.specs.declared.ClassesAnswer.{ClassesAnswer}
 
@@ -61,9 +61,6 @@ classesAnswer l n classRoom workRoom =
     (classesRefused 8 n)
     (cond (ltb workRoom (wordsNeeded l)) (classesRefused 9 (wordsNeeded l)) (classesRefused 0 0)))
     (classesRefused (checkOf l n .code) (checkOf l n .place))
-
-abbrev pub over {ℓ} : {A : Type ℓ} → List A → List A → List A
-over xs old = xs ++ drop (length xs) old
 
 module _ (l : List ℤ) (n : ℕ) (newList map : List ℤ) (work : List ℕ) where
   -- the cut is made

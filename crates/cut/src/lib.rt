@@ -1,5 +1,5 @@
-// The global cut with its map, and the classes of the vertices. It stands on `edges` and cites its contracts only; the program
-// and the layers of later requests stand on it.
+// The global cut with its map, and the classes of the vertices. It stands on `groups`, `fans` and `renumber` and cites their
+// contracts only; the program and the layers of later requests stand on it.
 use list::IndexList;
 ghost use mathlib.Core.Path.{_≡_};
 ghost use Prim.Native.Nat.{_*_, _≤_};
@@ -7,23 +7,11 @@ ghost use lib.ListN.{length, replicate};
 ghost use Rattle.list.specs.Faces.{corners};
 ghost use Rattle.list.specs.Check.{Valid};
 ghost use Rattle.edges.specs.Uses.{singularEdges};
-ghost use Rattle.cut.specs.Classes.{classesOf};
-ghost use Rattle.cut.specs.Cut.{
-  cutRefused,
-  cutOf,
-  cutList,
-  cutMap,
-  cutWork,
-  classesAnswer,
-  classesBytes,
-  classesWork,
-};
-ghost use Rattle.cut.specs.Forest.{Grouped, GroupsCut, CutMade};
+ghost use Rattle.fans.specs.Classes.{classesOf};
+ghost use Rattle.cut.specs.Cut.{cutRefused, cutOf, cutList, cutMap, cutWork, classesAnswer, classesBytes, classesWork};
+ghost use Rattle.groups.specs.Forest.{Grouped};
+ghost use Rattle.cut.specs.Made.{GroupsCut, CutMade};
 
-mod groups;
-mod marks;
-mod renumber;
-mod singular;
 mod work;
 
 // The cut's answer.
@@ -86,23 +74,13 @@ pub fn classes(list: &[i32], n: usize, classes: &mut [u8], work: &mut [u32]) -> 
     ClassesAnswer { code: 0, place: 0 }
 }
 
-// The edge table of a valid list in the work buffer, with the parents of its groups behind it, and the number of singular edges.
-fn group_list(list: &[i32], n: usize, c: usize, work: &mut [u32]) -> usize
-    requires { ⌜ Valid (now list) n × (c ≡ length (corners (now list))) × (length (now work) ≡ 4 * c) ⌝ }
-    ensures { λ r. ⌜ Grouped (now (list .entry)) c (now (work .exit)) × (r ≡ singularEdges (now (list .entry))) ⌝ }
-{
-    let singular = edges::edge_table(list, n, work);
-    groups::group(work, c);
-    singular
-}
-
 // The classes of a valid list in marks for its n vertices; the work is cleared.
 fn class_list(list: &[i32], n: usize, c: usize, marks: &mut [u8], work: &mut [u32])
     requires { ⌜ Valid (now list) n × (c ≡ length (corners (now list))) × (length (now marks) ≡ n) × (length (now work) ≡ 4 * c) ⌝ }
     ensures { λ _. ⌜ (now (marks .exit) ≡ classesOf (now (list .entry)) n) × (now (work .exit) ≡ replicate (4 * c) 0) ⌝ }
 {
-    group_list(list, n, c, work);
-    marks::mark(work, c, marks);
+    groups::group_list(list, n, c, work);
+    fans::marks::mark(work, c, marks);
     work::clear(work);
 }
 
@@ -178,9 +156,9 @@ fn cut_marked(
     requires { ⌜ Valid (now list) (length (now marks)) × Grouped (now list) c (now work) × (edges ≡ singularEdges (now list)) × (length (now «new_list») ≡ length (now list)) × (c ≤ length (now map)) × (now marks ≡ replicate (length (now marks)) 0) ⌝ }
     ensures { λ r. ⌜ GroupsCut (now (list .entry)) (length (now (marks .entry))) (r .vertices) (r .«singular_vertices») (now («new_list» .exit)) (now (map .entry)) (now (map .exit)) ⌝ }
 {
-    let ends = singular::singular_ends(work, c, edges, marks);
+    let ends = fans::singular::singular_ends(work, c, edges, marks);
     let vertices = renumber::renumber(list, work, c, new_list, map);
-    let fans = singular::count_fans(&map[..vertices], marks);
+    let fans = fans::singular::count_fans(&map[..vertices], marks);
     let singular_vertices = ends + fans;
     VertexCounts {
         vertices,
@@ -222,7 +200,7 @@ fn cut_list(
     requires { ⌜ Valid (now list) n × (c ≡ length (corners (now list))) × (length (now «new_list») ≡ length (now list)) × (c ≤ length (now map)) × (length (now work) ≡ 4 * c) ⌝ }
     ensures { λ r. ⌜ CutMade (now (list .entry)) n c (r .vertices) (r .«singular_edges») (r .«singular_vertices») (now («new_list» .exit)) (now (map .entry)) (now (map .exit)) (now (work .exit)) ⌝ }
 {
-    let singular_edges = group_list(list, n, c, work);
+    let singular_edges = groups::group_list(list, n, c, work);
     let counts = cut_groups(list, n, c, new_list, map, work, singular_edges);
     work::clear(work);
     Counts {

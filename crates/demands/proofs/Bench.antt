@@ -7,9 +7,9 @@ use lib.IntN.{ℤ, pos, negsuc}
 use lib.ListN.{length, take, replicate}
 use Rattle.list.specs.Check.{checkOf, faceFault, checkFaces}
 use Rattle.edges.specs.Uses.{uses}
-use Rattle.cut.specs.Groups.{groupLabels, fanLabels, links, labelsOf}
-use Rattle.cut.specs.Renumber.{newListOf, newNumbers, mapOf}
-use Rattle.cut.specs.Classes.{classesOf, classOf, fansAt, singularVertices}
+use Rattle.groups.specs.Groups.{groupLabels, fanLabels, links, labelsOf}
+use Rattle.renumber.specs.Renumber.{newListOf, newNumbers, mapOf}
+use Rattle.fans.specs.Classes.{classesOf, classOf, fansAt, singularVertices}
 use Rattle.cut.specs.Cut.{cutOf, cutList, cutMap, classesAnswer, classesBytes}
 
 pub record Row : Type 0 where

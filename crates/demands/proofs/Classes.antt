@@ -16,9 +16,9 @@ use Rattle.edges.proofs.Lists.{In}
 use Rattle.edges.proofs.Uses.{noUse, uses-long, from-at, next-below}
 use Rattle.edges.proofs.Faces.{and-true}
 use Rattle.edges.proofs.Mates.{sharing, sharing-faces, sharing-same, in-sharing}
-use Rattle.cut.specs.Groups.{everyEdge, groupsOfUses, fanLabels}
-use Rattle.cut.specs.Renumber.{distinct}
-use Rattle.cut.specs.Classes.{touches, endsEdgeOf, endsEdge, hasFace, labelsAt, fansAt, classOf}
+use Rattle.groups.specs.Groups.{everyEdge, groupsOfUses, fanLabels}
+use Rattle.groups.specs.Distinct.{distinct}
+use Rattle.fans.specs.Classes.{touches, endsEdgeOf, endsEdge, hasFace, labelsAt, fansAt, classOf}
 use Rattle.demands.specs.Renumbered.{Corner, vertexAt}
 use Rattle.demands.specs.Linked.{useAt, OneFan}
 use Rattle.demands.specs.Labelling.{labelAt}

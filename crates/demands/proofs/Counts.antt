@@ -17,8 +17,8 @@ use Rattle.edges.proofs.Lists.{In, in-choose, in-chosen, in-at, choose-map, in-
 use Rattle.edges.proofs.Uses.{noUse, corner-at}
 use Rattle.edges.proofs.Faces.{on-edge, use-proper, Proper}
 use Rattle.edges.proofs.Mates.{sharing, sharing-is, sharing-faces, in-sharing}
-use Rattle.cut.specs.Groups.{countFrom}
-use Rattle.cut.specs.Classes.{hasFace, endsEdge, fansAt, classOf, classesOf, isSingularClass, singularVertices}
+use Rattle.groups.specs.Groups.{countFrom}
+use Rattle.fans.specs.Classes.{hasFace, endsEdge, fansAt, classOf, classesOf, isSingularClass, singularVertices}
 use Rattle.demands.specs.Linked.{useAt}
 use Rattle.demands.specs.Counted.{Counted, SingularEdge, SingularVertex}
 use Rattle.demands.proofs.Labels.{countFrom-length, countFrom-at}

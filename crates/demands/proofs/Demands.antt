@@ -19,9 +19,9 @@ use Rattle.text.proofs.RoundTrip.{ReadsBack, round-trip}
 use Rattle.edges.specs.Choose.{count}
 use Rattle.edges.specs.Uses.{Use, uses, facesOn, singularEdges}
 use Rattle.edges.proofs.Faces.{hasEdge, uses-are-faces}
-use Rattle.cut.specs.Groups.{everyEdge, groupsOfUses, groupLabels}
-use Rattle.cut.specs.Renumber.{newListOf, newVertices}
-use Rattle.cut.specs.Classes.{classOf, classesOf, singularVertices}
+use Rattle.groups.specs.Groups.{everyEdge, groupsOfUses, groupLabels}
+use Rattle.renumber.specs.Renumber.{newListOf, newVertices}
+use Rattle.fans.specs.Classes.{classOf, classesOf, singularVertices}
 use Rattle.cut.specs.Cut.{cutAccepted}
 use Rattle.demands.specs.Joined.{Equivalence, Joined}
 use Rattle.demands.specs.Renumbered.{Corner, vertexAt, ends, mapped, FirstUse}

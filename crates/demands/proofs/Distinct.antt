@@ -12,7 +12,7 @@ use borrow.Author.Tests.{eqb-true, eqb-false, eq-eqb, ne-eqb}
 use lib.Dec.{eqb}
 use lib.ListN.{length, getD, length-map}
 use Rattle.edges.proofs.Lists.{In}
-use Rattle.cut.specs.Renumber.{isIn, distinctAfter, distinct, placeIn}
+use Rattle.groups.specs.Distinct.{isIn, distinctAfter, distinct, placeIn}
 
 abbrev pub Different : List ℕ → Type 0
 Different [] = Unit {0}

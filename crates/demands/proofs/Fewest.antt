@@ -12,8 +12,9 @@ use lib.ListN.{length}
 use Rattle.list.specs.Check.{Valid}
 use Rattle.edges.specs.Uses.{uses}
 use Rattle.edges.proofs.Lists.{In}
-use Rattle.cut.specs.Groups.{links, everyEdge}
-use Rattle.cut.specs.Renumber.{distinct, placeIn, newVertices}
+use Rattle.groups.specs.Groups.{links, everyEdge}
+use Rattle.groups.specs.Distinct.{distinct, placeIn}
+use Rattle.renumber.specs.Renumber.{newVertices}
 use Rattle.demands.specs.Joined.{Joined, link}
 use Rattle.demands.specs.Renumbered.{Corner, vertexAt}
 use Rattle.demands.specs.Linked.{Linked}

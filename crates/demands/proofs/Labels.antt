@@ -10,7 +10,7 @@ use borrow.Author.Tests.{leb-true, leb-false, ltb-true, ltb-false, eqb-true, eqb
 use lib.Dec.{leb, ltb, eqb}
 use lib.ListN.{length, getD, length-map, List·getD-map, List·getD-eq-default}
 use Rattle.edges.proofs.Lists.{In}
-use Rattle.cut.specs.Groups.{Link, countFrom, upTo, replaced, merge, mergeAll, labelsOf}
+use Rattle.groups.specs.Groups.{Link, countFrom, upTo, replaced, merge, mergeAll, labelsOf}
 use Rattle.demands.specs.Joined.{Joined, link, same, back, chain}
 use Rattle.demands.specs.Labelling.{labelAt}
 use Rattle.demands.proofs.Equivalence.{joined-equal}

@@ -13,7 +13,7 @@ use Rattle.edges.specs.Uses.{Use, uses, Mate, alone, other, many, mateOf}
 use Rattle.edges.proofs.Lists.{In}
 use Rattle.edges.proofs.Uses.{uses-long, corner-at}
 use Rattle.edges.proofs.Mates.{Regular, mate-other, mate-regular}
-use Rattle.cut.specs.Groups.{Link, linksOf, noUse, linksAt, linksFrom, links, groupsOfUses}
+use Rattle.groups.specs.Groups.{Link, linksOf, noUse, linksAt, linksFrom, links, groupsOfUses}
 use Rattle.demands.specs.Joined.{Joined, link, Side, starts, stops}
 use Rattle.demands.specs.Renumbered.{Corner, vertexAt}
 use Rattle.demands.specs.Linked.{useAt, cornerBy, Across}

@@ -11,7 +11,8 @@ use lib.IntN.{ℤ, pos}
 use lib.ListN.{length, getD, length-map, List·getD-map}
 use Rattle.list.specs.Faces.{isEnd, corners, num}
 use Rattle.edges.proofs.Lists.{In}
-use Rattle.cut.specs.Renumber.{distinct, placeIn, newNumbers, refilled, newListOf, newVertices, mapOf}
+use Rattle.groups.specs.Distinct.{distinct, placeIn}
+use Rattle.renumber.specs.Renumber.{newNumbers, refilled, newListOf, newVertices, mapOf}
 use Rattle.demands.specs.Renumbered.{Corner, vertexAt, ends, mapped, FirstUse}
 use Rattle.demands.specs.Labelling.{labelAt}
 use Rattle.demands.specs.Classed.{Used}

@@ -12,7 +12,7 @@ use lib.IntN.{ℤ, pos, negsuc}
 use lib.ListN.{length, getD}
 use lib.Seq.{ext-getD}
 use Rattle.list.specs.Faces.{isEnd, end, corners}
-use Rattle.cut.specs.Renumber.{newListOf, newVertices, mapOf}
+use Rattle.renumber.specs.Renumber.{newListOf, newVertices, mapOf}
 use Rattle.demands.specs.Renumbered.{Corner, vertexAt, ends, mapped, FirstUse}
 use Rattle.demands.specs.Labelling.{labelAt}
 use Rattle.demands.proofs.Numbering.{new-ends, new-corners-length, new-entry, new-vertex, first-use, same-number, same-label, number-used, map-length, back-number}

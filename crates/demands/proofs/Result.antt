@@ -14,8 +14,8 @@ use Rattle.edges.specs.Uses.{Use, uses, onEdge, facesOn}
 use Rattle.edges.proofs.Lists.{In, Rising}
 use Rattle.edges.proofs.Uses.{uses-long}
 use Rattle.edges.proofs.Mates.{sharing, sharing-faces, sharing-rises, in-sharing, shares, is-here}
-use Rattle.cut.specs.Groups.{links, groupsOfUses}
-use Rattle.cut.specs.Renumber.{newListOf, newVertices}
+use Rattle.groups.specs.Groups.{links, groupsOfUses}
+use Rattle.renumber.specs.Renumber.{newListOf, newVertices}
 use Rattle.demands.specs.Joined.{Joined, link, Side, starts, stops, opposite}
 use Rattle.demands.specs.Renumbered.{Corner, vertexAt}
 use Rattle.demands.specs.Linked.{useAt, cornerBy, Across, OneFan}

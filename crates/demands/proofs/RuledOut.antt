@@ -8,9 +8,9 @@ use lib.IntN.{ℤ, pos, negsuc}
 use lib.ListN.{length, getD, replicate}
 use Rattle.list.specs.Faces.{num}
 use Rattle.list.specs.Check.{checkOf, checkFaces, faceFault}
-use Rattle.cut.specs.Groups.{groupLabels, fanLabels, links, labelsOf}
-use Rattle.cut.specs.Renumber.{newListOf, newNumbers, mapOf}
-use Rattle.cut.specs.Classes.{classesOf, classOf, fansAt, singularVertices}
+use Rattle.groups.specs.Groups.{groupLabels, fanLabels, links, labelsOf}
+use Rattle.renumber.specs.Renumber.{newListOf, newNumbers, mapOf}
+use Rattle.fans.specs.Classes.{classesOf, classOf, fansAt, singularVertices}
 use Rattle.cut.specs.Cut.{cutOf, cutList, cutMap}
 use Rattle.cut.specs.declared.CutAnswer.{CutAnswer}
 use Rattle.demands.specs.Wrong.{Outcome, Program, asked, Meets, refusesAll, fixedAnswer, writesNothing, plainCopy, vertexPerCorner, firstEdgeOnly, madeUpCounts, tearsSingular, copiesAtSingular, oppositeOnly, oneEndpoint, firstTwoOfThree}

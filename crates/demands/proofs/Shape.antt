@@ -19,7 +19,8 @@ use Rattle.edges.specs.Uses.{Use, usesToEnd, usesOfFace, usesFrom, uses}
 use Rattle.edges.specs.Table.{nextWords}
 use Rattle.edges.proofs.Lists.{map-append}
 use Rattle.edges.proofs.Uses.{noUse, joined, corners-joined}
-use Rattle.cut.specs.Renumber.{distinct, newNumbers, newListOf, newVertices}
+use Rattle.groups.specs.Distinct.{distinct}
+use Rattle.renumber.specs.Renumber.{newNumbers, newListOf, newVertices}
 use Rattle.demands.specs.Renumbered.{Corner, ends}
 use Rattle.demands.proofs.Distinct.{different-fit, distinct-different, distinct-of}
 use Rattle.demands.proofs.Numbering.{new-ends, new-entry, number-below, same-label, Refines}

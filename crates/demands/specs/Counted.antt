@@ -9,7 +9,7 @@ use mathlib.Core.List.{List}
 use mathlib.Core.Logic.{_⊎_}
 use lib.IntN.{ℤ}
 use Rattle.edges.specs.Uses.{facesOn}
-use Rattle.cut.specs.Classes.{classOf}
+use Rattle.fans.specs.Classes.{classOf}
 
 pub record Counted {A : Type 0} (P : A → Type 0) (m : ℕ) : Type 0 where
   pub nth : ℕ → A

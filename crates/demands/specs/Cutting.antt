@@ -14,8 +14,8 @@ use lib.IntN.{ℤ, pos}
 use lib.ListN.{getD}
 use Rattle.list.specs.Faces.{corners}
 use Rattle.list.specs.Check.{checkOf}
-use Rattle.cut.specs.Groups.{groupLabels}
-use Rattle.cut.specs.Renumber.{newListOf, newVertices, mapOf}
+use Rattle.groups.specs.Groups.{groupLabels}
+use Rattle.renumber.specs.Renumber.{newListOf, newVertices, mapOf}
 use Rattle.demands.specs.Joined.{Joined}
 use Rattle.demands.specs.Renumbered.{Corner, vertexAt, ends, FirstUse}
 use Rattle.demands.specs.Linked.{Linked}

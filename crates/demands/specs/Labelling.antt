@@ -11,7 +11,7 @@ use mathlib.Core.List.{List}
 use lib.IntN.{ℤ}
 use lib.ListN.{length, getD}
 use Rattle.list.specs.Faces.{corners}
-use Rattle.cut.specs.Renumber.{distinct}
+use Rattle.groups.specs.Distinct.{distinct}
 use Rattle.demands.specs.Joined.{Joined}
 use Rattle.demands.specs.Renumbered.{Corner, vertexAt}
 use Rattle.demands.specs.Linked.{Linked}

@@ -13,7 +13,7 @@ use mathlib.Core.Bool.{true}
 use lib.IntN.{ℤ}
 use lib.ListN.{getD}
 use Rattle.edges.specs.Uses.{Use, uses, onEdge, facesOn}
-use Rattle.cut.specs.Groups.{noUse}
+use Rattle.groups.specs.Groups.{noUse}
 use Rattle.demands.specs.Joined.{Joined, Side, starts, stops}
 use Rattle.demands.specs.Renumbered.{Corner, vertexAt}
 

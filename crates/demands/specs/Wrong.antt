@@ -17,10 +17,11 @@ use lib.IntN.{ℤ, pos}
 use lib.ListN.{length, getD, take}
 use Rattle.list.specs.Check.{checkOf}
 use Rattle.edges.specs.Uses.{Use, uses, usesOn, cornersOf, isSingular, singularEdges, Mate, alone, other, many, mateOf}
-use Rattle.cut.specs.Groups.{Link, linksOf, links, everyEdge, noUse, upTo, labelsOf, groupLabels}
-use Rattle.cut.specs.Renumber.{newListOf, newVertices, mapOf}
-use Rattle.cut.specs.Classes.{endsEdge, singularVertices}
-use Rattle.cut.specs.Cut.{cutOf, cutList, cutMap, cutRefused, over}
+use Rattle.groups.specs.Groups.{Link, linksOf, links, everyEdge, noUse, upTo, labelsOf, groupLabels}
+use Rattle.renumber.specs.Renumber.{newListOf, newVertices, mapOf}
+use Rattle.fans.specs.Classes.{endsEdge, singularVertices}
+use Rattle.renumber.specs.Written.{over}
+use Rattle.cut.specs.Cut.{cutOf, cutList, cutMap, cutRefused}
 use Rattle.cut.specs.declared.CutAnswer.{CutAnswer}
 
 pub record Outcome : Type 0 where

@@ -7,9 +7,9 @@ use mathlib.Core.List.{List, [], _∷_}
 use Rattle.list.specs.Check.{checkOf, faceFault, checkFaces}
 use Rattle.text.specs.Reading.{readOf}
 use Rattle.number.specs.Decimal.{width}
-use Rattle.cut.specs.Groups.{groupLabels, fanLabels, links, labelsOf}
-use Rattle.cut.specs.Renumber.{newListOf, newNumbers, mapOf}
-use Rattle.cut.specs.Classes.{classesOf, classOf, fansAt, singularVertices}
+use Rattle.groups.specs.Groups.{groupLabels, fanLabels, links, labelsOf}
+use Rattle.renumber.specs.Renumber.{newListOf, newNumbers, mapOf}
+use Rattle.fans.specs.Classes.{classesOf, classOf, fansAt, singularVertices}
 use Rattle.cut.specs.Cut.{cutOf}
 use Rattle.program.specs.Printed.{cutAnswer, printedCut, printed}
 

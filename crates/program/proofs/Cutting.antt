@@ -15,9 +15,11 @@ use Rattle.list.specs.Check.{checkOf}
 use Rattle.text.specs.Writing.{written, AllFit}
 use Rattle.number.specs.Steps.{put}
 use Rattle.number.proofs.Putting.{put-behind}
-use Rattle.cut.specs.Groups.{groupLabels}
-use Rattle.cut.specs.Renumber.{distinct, newListOf, mapOf}
-use Rattle.cut.specs.Cut.{wordsNeeded, cutRefused, cutAccepted, cutOf, over, isCut, cutList, cutMap}
+use Rattle.groups.specs.Groups.{groupLabels}
+use Rattle.groups.specs.Distinct.{distinct}
+use Rattle.renumber.specs.Renumber.{newListOf, mapOf}
+use Rattle.renumber.specs.Written.{over}
+use Rattle.cut.specs.Cut.{wordsNeeded, cutRefused, cutAccepted, cutOf, isCut, cutList, cutMap}
 use Rattle.cut.specs.declared.CutAnswer.{CutAnswer}
 use Rattle.program.specs.Limits.{inputEntries}
 use Rattle.program.specs.Printed.{vertexCount, lineFeed, line, listLine, cutNumbers, cutAnswer, cutLists, printedCut, Read}

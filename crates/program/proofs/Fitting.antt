@@ -11,7 +11,8 @@ use Rattle.list.specs.Faces.{isEnd, corners}
 use Rattle.number.specs.Decimal.{width}
 use Rattle.text.specs.Writing.{entryText, joint, itemText, entriesText, written, Fits32, AllFit}
 use Rattle.number.proofs.Putting.{digits-length}
-use Rattle.cut.specs.Renumber.{distinct, placeIn, newNumbers, refilled, newListOf, mapOf}
+use Rattle.groups.specs.Distinct.{distinct, placeIn}
+use Rattle.renumber.specs.Renumber.{newNumbers, refilled, newListOf, mapOf}
 use Rattle.number.proofs.Width.{width-within}
 
 pub fit-cons : (x : ℤ) (xs : List ℤ) → Fits32 x → AllFit xs → AllFit (x ∷ xs)

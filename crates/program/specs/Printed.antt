@@ -29,8 +29,8 @@ use Rattle.text.specs.Tokens.{tokens}
 use Rattle.text.specs.Reading.{readOf, entriesOf}
 use Rattle.number.specs.Decimal.{decimalText}
 use Rattle.text.specs.Writing.{written, AllFit}
-use Rattle.cut.specs.Groups.{groupLabels}
-use Rattle.cut.specs.Renumber.{newListOf, mapOf}
+use Rattle.groups.specs.Groups.{groupLabels}
+use Rattle.renumber.specs.Renumber.{newListOf, mapOf}
 use Rattle.cut.specs.Cut.{cutOf}
 use Rattle.cut.specs.declared.CutAnswer.{CutAnswer}
 use Rattle.program.specs.Limits.{inputBytes, inputEntries, outputBytes}

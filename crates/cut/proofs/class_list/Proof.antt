@@ -3,8 +3,8 @@ use Prim.Native.Nat.{ℕ}
 use mathlib.Core.Path.{_∙_, ap}
 use denote.Ref.{now}
 use lib.ListN.{replicate}
-use Rattle.cut.specs.Classes.{classesOf}
-use Rattle.cut.proofs.Grouping.{words-of-groups}
+use Rattle.fans.specs.Classes.{classesOf}
+use Rattle.cut.proofs.Words.{words-of-groups}
 use borrow.Author.Needs.{needs}
 use Rattle.cut.proofs.class_list.Statement.{statement}
 use Rattle.cut.proofs.class_list.Tie as tie

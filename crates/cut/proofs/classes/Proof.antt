@@ -4,7 +4,7 @@ use mathlib.Core.Path.{_≡_, sym, _∙_}
 use native.Mathlib.Omega.{arith}
 use denote.Ref.{now}
 use lib.Seq.{length-take-le}
-use Rattle.cut.proofs.Grouping.{few-corners}
+use Rattle.groups.proofs.Grouping.{few-corners}
 use Rattle.cut.proofs.Answers.{check-valid, check-corners, classes-check, classes-room, classes-words, classes-done}
 use borrow.Author.Needs.{needs}
 use Rattle.cut.proofs.classes.Statement.{statement}

@@ -5,8 +5,8 @@ use native.Mathlib.Omega.{arith}
 use denote.Ref.{now}
 use lib.ListN.{length}
 use lib.Seq.{length-take-le}
-use Rattle.cut.specs.Groups.{groupLabels}
-use Rattle.cut.proofs.NoSingular.{none-where-zero}
+use Rattle.groups.specs.Groups.{groupLabels}
+use Rattle.fans.proofs.NoSingular.{none-where-zero}
 use Rattle.cut.proofs.Cutting.{marks-words, entry-words, groups-forest, part-few, part-inside, points-few, groups-cut}
 use borrow.Author.Needs.{needs}
 use Rattle.cut.proofs.cut_marked.Statement.{statement}

@@ -8,8 +8,8 @@ use lib.IntN.{ℤ, pos}
 use lib.ListN.{length, take, replicate}
 use lib.Seq.{length-take-le}
 use Rattle.number.specs.Steps.{put}
-use Rattle.cut.specs.Groups.{groupLabels}
-use Rattle.cut.specs.Renumber.{newListOf}
+use Rattle.groups.specs.Groups.{groupLabels}
+use Rattle.renumber.specs.Renumber.{newListOf}
 use Rattle.cut.specs.declared.CutAnswer.{CutAnswer}
 use Rattle.program.specs.Limits.{inputEntries}
 use Rattle.program.specs.Printed.{vertexCount, line, listLine, cutNumbers, cutAnswer}

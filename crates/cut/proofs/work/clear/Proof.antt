@@ -3,7 +3,7 @@ use Prim.Native.Nat.{_-_}
 use mathlib.Core.Path.{_≡_, refl}
 use denote.Ref.{now}
 use lib.ListN.{length}
-use Rattle.cut.proofs.Filled.{Cleared, cleared-start, cleared-more, cleared-all}
+use Rattle.fans.proofs.Cleared.{Cleared, cleared-start, cleared-more, cleared-all}
 use native.Mathlib.Omega.{arith}
 use Rattle.cut.proofs.work.clear.Statement.{statement}
 use Rattle.cut.proofs.work.clear.Tie as tie

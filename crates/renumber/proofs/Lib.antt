@@ -1,0 +1,4 @@
+pub mod Filled
+pub mod Places
+pub mod Numbering
+pub mod Walk
