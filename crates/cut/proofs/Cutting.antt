@@ -11,9 +11,9 @@ use lib.ListN.{length, getD, take, drop, replicate, length-map, length-replicate
 use lib.Seq.{length-take-le, take-at}
 use Rattle.list.specs.Faces.{corners, num, vertices}
 use Rattle.list.specs.Check.{Valid}
-use Rattle.edges.specs.Choose.{All, choose, count}
+use Rattle.order.specs.Choose.{All, choose, count}
+use Rattle.order.proofs.Lists.{all-at, choose-few}
 use Rattle.edges.specs.Uses.{singularEdges}
-use Rattle.edges.proofs.Lists.{all-at, choose-few}
 use Rattle.edges.proofs.Uses.{uses-long}
 use Rattle.groups.specs.Groups.{countFrom, upTo, groupLabels, fanLabels}
 use Rattle.groups.specs.Distinct.{placeIn, distinct}

@@ -7,10 +7,10 @@ use lib.IntN.{ℤ, pos}
 use lib.ListN.{length, getD}
 use Rattle.list.specs.Faces.{runs, corners, num}
 use Rattle.list.specs.Check.{ValidFace, Valid}
-use Rattle.edges.specs.Choose.{All}
+use Rattle.order.specs.Choose.{All}
+use Rattle.order.proofs.Lists.{all-of, all-at, all-append}
 use Rattle.edges.specs.Uses.{uses}
 use Rattle.edges.specs.Table.{tableOf}
-use Rattle.edges.proofs.Lists.{all-of, all-at, all-append}
 use Rattle.edges.proofs.Uses.{uses-long, useAt, joined, corners-joined, from-at}
 use Rattle.edges.proofs.Faces.{use-proper}
 use Rattle.edges.proofs.Table.{table-vertex}

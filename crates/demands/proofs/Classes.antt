@@ -10,9 +10,9 @@ use lib.Dec.{eqb, ltb}
 use lib.IntN.{ℤ}
 use lib.ListN.{length, getD}
 use Rattle.list.specs.Check.{Valid}
-use Rattle.edges.specs.Choose.{choose}
+use Rattle.order.specs.Choose.{choose}
+use Rattle.order.proofs.Lists.{In}
 use Rattle.edges.specs.Uses.{Use, uses, lo, hi, usesOn, facesOn, onEdge, isBoundary, isSingular}
-use Rattle.edges.proofs.Lists.{In}
 use Rattle.edges.proofs.Uses.{noUse, uses-long, from-at, next-below}
 use Rattle.edges.proofs.Faces.{and-true}
 use Rattle.edges.proofs.Mates.{sharing, sharing-faces, sharing-same, in-sharing}

@@ -11,9 +11,10 @@ use lib.Dec.{eqb, ltb}
 use lib.IntN.{ℤ}
 use lib.ListN.{length, getD, length-map}
 use Rattle.list.specs.Check.{Valid}
-use Rattle.edges.specs.Choose.{choose, upFrom}
-use Rattle.edges.specs.Uses.{Use, uses, lo, hi, isBoundary, isSingular, startsMany, startsSingular, singularEdges}
-use Rattle.edges.proofs.Lists.{In, in-choose, in-chosen, in-at, choose-map, in-upFrom, upFrom-in, Rising, rising-upFrom, rising-choose, rising-above, all-at, from-table}
+use Rattle.order.specs.Choose.{choose, upFrom}
+use Rattle.order.proofs.Lists.{In, in-choose, in-chosen, in-at, choose-map, in-upFrom, upFrom-in, Rising, rising-upFrom, rising-choose, rising-above, all-at, from-table}
+use Rattle.mates.specs.Mates.{startsMany}
+use Rattle.edges.specs.Uses.{Use, uses, lo, hi, isBoundary, isSingular, startsSingular, singularEdges}
 use Rattle.edges.proofs.Uses.{noUse, corner-at}
 use Rattle.edges.proofs.Faces.{on-edge, use-proper, Proper}
 use Rattle.edges.proofs.Mates.{sharing, sharing-is, sharing-faces, in-sharing}

@@ -16,7 +16,7 @@ use Rattle.list.proofs.Checking.{faces-long}
 use Rattle.list.specs.Limits.{maxEntries}
 use Rattle.text.specs.Writing.{AllFit}
 use Rattle.text.proofs.RoundTrip.{ReadsBack, round-trip}
-use Rattle.edges.specs.Choose.{count}
+use Rattle.order.specs.Choose.{count}
 use Rattle.edges.specs.Uses.{Use, uses, facesOn, singularEdges}
 use Rattle.edges.proofs.Faces.{hasEdge, uses-are-faces}
 use Rattle.groups.specs.Groups.{everyEdge, groupsOfUses, groupLabels}

@@ -11,7 +11,7 @@ use native.Mathlib.Omega.{arith}
 use borrow.Author.Tests.{eqb-true, eqb-false, eq-eqb, ne-eqb}
 use lib.Dec.{eqb}
 use lib.ListN.{length, getD, length-map}
-use Rattle.edges.proofs.Lists.{In}
+use Rattle.order.proofs.Lists.{In}
 use Rattle.groups.specs.Distinct.{isIn, distinctAfter, distinct, placeIn}
 
 abbrev pub Different : List ℕ → Type 0

@@ -10,8 +10,8 @@ use lib.Dec.{ltb}
 use lib.IntN.{ℤ}
 use lib.ListN.{length}
 use Rattle.list.specs.Check.{Valid}
+use Rattle.order.proofs.Lists.{In}
 use Rattle.edges.specs.Uses.{uses}
-use Rattle.edges.proofs.Lists.{In}
 use Rattle.groups.specs.Groups.{links, everyEdge}
 use Rattle.groups.specs.Distinct.{distinct, placeIn}
 use Rattle.renumber.specs.Renumber.{newVertices}

@@ -9,7 +9,7 @@ use native.Mathlib.Omega.{arith}
 use borrow.Author.Tests.{leb-true, leb-false, ltb-true, ltb-false, eqb-true, eqb-false}
 use lib.Dec.{leb, ltb, eqb}
 use lib.ListN.{length, getD, length-map, List·getD-map, List·getD-eq-default}
-use Rattle.edges.proofs.Lists.{In}
+use Rattle.order.proofs.Lists.{In}
 use Rattle.groups.specs.Groups.{Link, countFrom, upTo, replaced, merge, mergeAll, labelsOf}
 use Rattle.demands.specs.Joined.{Joined, link, same, back, chain}
 use Rattle.demands.specs.Labelling.{labelAt}

@@ -9,8 +9,9 @@ use borrow.Author.Tests.{ltb-true, ltb-false, lt-ltb, eqb-true, eqb-false, eq-eq
 use lib.Dec.{ltb, eqb}
 use lib.IntN.{ℤ}
 use lib.ListN.{length, getD}
-use Rattle.edges.specs.Uses.{Use, uses, Mate, alone, other, many, mateOf}
-use Rattle.edges.proofs.Lists.{In}
+use Rattle.order.proofs.Lists.{In}
+use Rattle.mates.specs.Mates.{Mate, alone, other, many}
+use Rattle.edges.specs.Uses.{Use, uses, mateOf}
 use Rattle.edges.proofs.Uses.{uses-long, corner-at}
 use Rattle.edges.proofs.Mates.{Regular, mate-other, mate-regular}
 use Rattle.groups.specs.Groups.{Link, linksOf, noUse, linksAt, linksFrom, links, groupsOfUses}

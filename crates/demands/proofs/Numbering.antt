@@ -10,7 +10,7 @@ use native.Mathlib.Omega.{arith}
 use lib.IntN.{ℤ, pos}
 use lib.ListN.{length, getD, length-map, List·getD-map}
 use Rattle.list.specs.Faces.{isEnd, corners, num}
-use Rattle.edges.proofs.Lists.{In}
+use Rattle.order.proofs.Lists.{In}
 use Rattle.groups.specs.Distinct.{distinct, placeIn}
 use Rattle.renumber.specs.Renumber.{newNumbers, refilled, newListOf, newVertices, mapOf}
 use Rattle.demands.specs.Renumbered.{Corner, vertexAt, ends, mapped, FirstUse}

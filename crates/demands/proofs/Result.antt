@@ -10,8 +10,8 @@ use lib.IntN.{ℤ, pos}
 use lib.ListN.{length}
 use Rattle.list.specs.Faces.{corners}
 use Rattle.list.specs.Check.{Valid}
+use Rattle.order.proofs.Lists.{In, Rising}
 use Rattle.edges.specs.Uses.{Use, uses, onEdge, facesOn}
-use Rattle.edges.proofs.Lists.{In, Rising}
 use Rattle.edges.proofs.Uses.{uses-long}
 use Rattle.edges.proofs.Mates.{sharing, sharing-faces, sharing-rises, in-sharing, shares, is-here}
 use Rattle.groups.specs.Groups.{links, groupsOfUses}

@@ -15,9 +15,9 @@ use lib.Seq.{getD-append-add}
 use Rattle.list.specs.Faces.{isEnd, push, runs, corners, num, vertices}
 use Rattle.list.specs.Check.{ValidFace, Valid}
 use Rattle.list.proofs.Checking.{corners-fit}
+use Rattle.order.proofs.Lists.{map-append}
 use Rattle.edges.specs.Uses.{Use, usesToEnd, usesOfFace, usesFrom, uses}
 use Rattle.edges.specs.Table.{nextWords}
-use Rattle.edges.proofs.Lists.{map-append}
 use Rattle.edges.proofs.Uses.{noUse, joined, corners-joined}
 use Rattle.groups.specs.Distinct.{distinct}
 use Rattle.renumber.specs.Renumber.{newNumbers, newListOf, newVertices}

@@ -16,7 +16,8 @@ use lib.Dec.{eqb, ltb}
 use lib.IntN.{ℤ, pos}
 use lib.ListN.{length, getD, take}
 use Rattle.list.specs.Check.{checkOf}
-use Rattle.edges.specs.Uses.{Use, uses, usesOn, cornersOf, isSingular, singularEdges, Mate, alone, other, many, mateOf}
+use Rattle.mates.specs.Mates.{Mate, alone, other, many}
+use Rattle.edges.specs.Uses.{Use, uses, usesOn, cornersOf, isSingular, singularEdges, mateOf}
 use Rattle.groups.specs.Groups.{Link, linksOf, links, everyEdge, noUse, upTo, labelsOf, groupLabels}
 use Rattle.renumber.specs.Renumber.{newListOf, newVertices, mapOf}
 use Rattle.fans.specs.Classes.{endsEdge, singularVertices}

@@ -1,7 +1,7 @@
 -- Taking the corners' words apart, one after the other.
 --
 --   Apart c w₀ w e    the words of the first e corners are taken apart in w, those left stand as in w₀
-use Prim.Native.Nat.{ℕ, suc, _+_, _*_, _/_, _%_, _≤_, _<_}
+use Prim.Native.Nat.{ℕ, _+_, _*_, _/_, _%_, _≤_, _<_}
 use mathlib.Core.Path.{_≡_, refl, _∙_, subst⁻¹}
 use mathlib.Core.List.{List}
 use native.Mathlib.Omega.{arith}

@@ -3,7 +3,6 @@ use Prim.Native.Nat.{ℕ, _+_, _*_, _/_, _%_, _≤_, _<_}
 use mathlib.Core.Path.{_≡_, refl, sym, _∙_, ap, ap₂}
 use mathlib.Core.Bool.{Bool, true, false, false≢true}
 use mathlib.Core.List.{List, _++_, map}
-use mathlib.Core.Logic.{inl}
 use native.Mathlib.Omega.{arith}
 use native.Mathlib.Nat.{zero-add}
 use borrow.Author.Tests.{eq-eqb, ne-eqb}
@@ -13,18 +12,19 @@ use lib.ListN.{length, getD, replicate, length-map, length-replicate, getD-repli
 use lib.Seq.{take-all, ext-getD}
 use Rattle.list.specs.Limits.{maxVertices}
 use Rattle.list.specs.Check.{Valid}
-use Rattle.edges.specs.Choose.{choose, count, upFrom}
-use Rattle.edges.specs.Uses.{Use, uses, hi, onEdge, mateAmong, startsMany, startsSingular, singularEdges}
-use Rattle.edges.specs.Table.{nextWords, vertexWords, mateWord, mateWords, tableOf}
-use Rattle.edges.specs.Sort.{keyOf, part, Kept, digitIs, keyAt, KeysBelow}
-use Rattle.edges.specs.Matching.{sameKey, wordBy, startsBy, RightAt}
-use Rattle.edges.proofs.Lists.{all-in, choose-same, choose-map, upFrom-in, from-table}
-use Rattle.edges.specs.Words.{cornerOf, cornerWords, TakenApart}
+use Rattle.order.specs.Choose.{choose, count, upFrom}
+use Rattle.order.specs.Sort.{part, Kept, digitIs, keyAt, KeysBelow}
+use Rattle.order.proofs.Lists.{all-in, choose-same, choose-map, upFrom-in, from-table}
+use Rattle.order.proofs.Parts.{length-part, getD-part, part-add}
+use Rattle.mates.specs.Mates.{mateAmong, mateWord, startsMany}
+use Rattle.mates.specs.Matching.{sameKey, wordBy, startsBy, RightAt}
+use Rattle.edges.specs.Uses.{Use, uses, hi, onEdge, startsSingular, singularEdges}
+use Rattle.edges.specs.Table.{nextWords, vertexWords, mateWords, tableOf}
+use Rattle.edges.specs.Words.{keyOf, cornerOf, cornerWords, TakenApart}
 use Rattle.edges.proofs.Uses.{noUse, useAt, corner-at}
 use Rattle.edges.proofs.Faces.{on-edge, edge-on, use-proper}
 use Rattle.edges.proofs.Mates.{sharing, sharing-is, mate-is, word}
 use Rattle.edges.proofs.Table.{mates-long, word-at}
-use Rattle.edges.proofs.Parts.{length-part, getD-part, part-add, kept-part}
 
 -- keys tell edges apart
 key-edge : (u v : Use) → hi u < maxVertices → hi v < maxVertices → eqb (keyOf u) (keyOf v) ≡ onEdge (v .from) (v .to) u
@@ -78,10 +78,6 @@ keys-below l n c w v u k e h =
     let p = use-proper l n v e q in
     let x : keyAt w e ≡ keyOf (useAt l e) = sym (getD-part 0 c w e h ∙ rw zero-add) ∙ ap (λ (xs : List ℕ). getD xs e 0) k ∙ key-at l n v e in
     (omega (arith, x, p .from-in, p .to-in, v .few-vertices), omega (arith, x, p .from-in, p .to-in, v .few-vertices))
-
--- keys that are kept are below it still
-pub keys-below-kept : (c n : ℕ) (w w′ : List ℕ) → Kept c (2 * c) w w′ → KeysBelow c n w → KeysBelow c n w′
-keys-below-kept c n w w′ k v e h = rw (k .low e h) (v e h)
 
 four-parts : (c : ℕ) (w : List ℕ) → length w ≡ 4 * c → w ≡ part 0 c w ++ part c c w ++ part (2 * c) c w ++ part (3 * c) c w
 four-parts c w h =

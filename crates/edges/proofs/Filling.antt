@@ -1,41 +1,24 @@
--- Writing a list word by word into a part of the work, and the words of one face.
+-- Writing two lists side by side, word by word, into two parts of the work, and the words of one face.
 --
---   Filling ys to w₀ w i    the first i words of ys stand in w from position `to` on; all but room for ys there is as in w₀
+--   FillingTwo ys zs to up w₀ w i    the first i words of ys stand from position `to` on, those of zs behind them from `up` on; all
+--                                    but room for both there is as in w₀
 use Prim.Native.Nat.{ℕ, _+_, _≤_, _<_}
 use mathlib.Core.Path.{_≡_, refl, sym, _∙_, ap}
 use mathlib.Core.Bool.{Bool, true, false}
 use mathlib.Core.List.{List, map}
 use native.Mathlib.Omega.{arith}
-use native.Mathlib.Numerals.{add-one}
 use borrow.Author.Tests.{eqb-true, eqb-false}
 use lib.Dec.{eqb}
 use lib.IntN.{ℤ, pos}
-use lib.ListN.{length, getD, take, set, length-map, length-set, List·getD-map}
-use lib.Seq.{take-suc, take-length, getD-set-same, getD-set-other}
+use lib.ListN.{length, getD, set, length-map, length-set, List·getD-map}
+use lib.Seq.{getD-set-same, getD-set-other}
 use Rattle.list.specs.Faces.{num, vertices}
 use Rattle.list.proofs.Repeats.{vertex-of, vertices-long}
+use Rattle.order.proofs.Parts.{part-before}
+use Rattle.order.proofs.Filling.{Filling, filling-none, filling-turn}
 use Rattle.edges.specs.Uses.{Use, usesOfFace, nextIn}
-use Rattle.edges.specs.Sort.{pairKey, keyOf, part, Kept}
-use Rattle.edges.specs.Words.{cornerWord, cornerOf, cornerWords}
-use Rattle.edges.proofs.Parts.{part-snoc, part-before, kept-none, kept-set}
+use Rattle.edges.specs.Words.{pairKey, keyOf, cornerWord, cornerOf, cornerWords}
 use Rattle.edges.proofs.Uses.{noUse, use-in, uses-face-long}
-
-pub record Filling (ys : List ℕ) (to : ℕ) (w₀ w : List ℕ) (i : ℕ) : Type 0 where
-  pub filled : part to i w ≡ take i ys
-  pub kept : Kept to (length ys) w₀ w
-
-pub filling-none : (ys : List ℕ) (to : ℕ) (w : List ℕ) → Filling ys to w w 0
-filling-none ys to w = record { filled = refl; kept = kept-none to (length ys) w }
-
-pub filling-turn : (ys : List ℕ) (to : ℕ) (w₀ w : List ℕ) (i v : ℕ) → i < length ys → to + length ys ≤ length w₀ → v ≡ getD ys i 0 → Filling ys to w₀ w i → Filling ys to w₀ (set w (to + i) v) (i + 1)
-filling-turn ys to w₀ w i v h k e f =
-    record {
-      filled = part-snoc to i w v (omega (arith, f .kept .long)) ∙ rw (f .filled, e, add-one i) (sym (take-suc ys i 0 h));
-      kept = kept-set to (length ys) w₀ w (to + i) v (omega arith) (omega arith) (f .kept);
-    }
-
-filling-end : (ys : List ℕ) (to : ℕ) (w₀ w : List ℕ) (i : ℕ) → i ≡ length ys → Filling ys to w₀ w i → part to (length ys) w ≡ ys
-filling-end ys to w₀ w i e f = rw (← e) (f .filled ∙ rw (e, take-length ys))
 
 -- a word written before the part, into both lists
 filling-aside : (ys : List ℕ) (to : ℕ) (w₀ w : List ℕ) (i j v : ℕ) → j < to → to ≤ length w₀ → Filling ys to w₀ w i → Filling ys to (set w₀ j v) (set w j v) i
@@ -89,7 +72,3 @@ module _ (at : ℕ) (r : List ℤ) (i : ℕ) (h : i < length r) where
 -- a word for each corner of the face
 pub words-long : (g : Use → ℕ) (at : ℕ) (r : List ℤ) → length (map g (usesOfFace at (vertices r))) ≡ length r
 words-long g at r = length-map (usesOfFace at (vertices r)) g ∙ uses-face-long at (vertices r) ∙ vertices-long r
-
--- all written: the part has the list, in the count of the face
-pub filling-done : (ys : List ℕ) (m to : ℕ) (w₀ w : List ℕ) (i : ℕ) → length ys ≡ m → i ≡ m → Filling ys to w₀ w i → (part to m w ≡ ys) × Kept to m w₀ w
-filling-done ys m to w₀ w i l e f = rw (← l) (filling-end ys to w₀ w i (e ∙ sym l) f, f .kept)

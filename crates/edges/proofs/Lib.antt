@@ -1,15 +1,7 @@
-pub mod Lists
 pub mod Uses
 pub mod Faces
 pub mod Mates
 pub mod Table
-pub mod Parts
-pub mod Blocks
-pub mod Scatter
-pub mod Counting
-pub mod Bucket
-pub mod Chain
-pub mod Meeting
 pub mod Filling
 pub mod Walk
 pub mod Apart

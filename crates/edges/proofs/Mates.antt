@@ -15,10 +15,10 @@ use borrow.Author.Tests.{eq-eqb, ne-eqb}
 use lib.Dec.{eqb}
 use lib.IntN.{ℤ}
 use lib.ListN.{length, length-map}
-use Rattle.edges.specs.Choose.{choose, All, upFrom}
-use Rattle.edges.specs.Uses.{Use, uses, onEdge, usesOn, facesOn, cornersOf, Mate, alone, other, many, mateAmong, mateOf}
-use Rattle.edges.specs.Table.{mateWord}
-use Rattle.edges.proofs.Lists.{In, all-in, in-choose, in-chosen, choose-map, in-upFrom, upFrom-in, Rising, rising-upFrom, rising-choose, from-table}
+use Rattle.order.specs.Choose.{choose, All, upFrom}
+use Rattle.order.proofs.Lists.{In, all-in, in-choose, in-chosen, choose-map, in-upFrom, upFrom-in, Rising, rising-upFrom, rising-choose, from-table}
+use Rattle.mates.specs.Mates.{Mate, alone, other, many, mateAmong, mateWord}
+use Rattle.edges.specs.Uses.{Use, uses, onEdge, usesOn, facesOn, cornersOf, mateOf}
 use Rattle.edges.proofs.Uses.{noUse, useAt, corner-at}
 use Rattle.edges.proofs.Faces.{on-edge, edge-on}
 

@@ -18,13 +18,13 @@ use Rattle.list.specs.Faces.{runs, num, vertices}
 use Rattle.list.specs.Check.{checkOf}
 use Rattle.list.specs.declared.Cursor.{Cursor}
 use Rattle.list.proofs.Runs.{Stepped}
-use Rattle.edges.specs.Choose.{choose}
+use Rattle.list.proofs.Checking.{corners-fit}
+use Rattle.order.specs.Choose.{choose}
 use Rattle.edges.specs.Uses.{Use, usesOfFace, usesFrom, uses, isEdge, onEdge, usesOn, facesOn}
 use Rattle.edges.specs.Table.{isIndex, isPair, edgeAnswer, edgeOf}
-use Rattle.edges.proofs.Lists.{choose-append, choose-few}
+use Rattle.order.proofs.Lists.{choose-append, choose-few}
 use Rattle.edges.proofs.Uses.{noUse, uses-long}
 use Rattle.edges.proofs.Faces.{is-edge, edge-is, face-anywhere}
-use Rattle.edges.proofs.Walk.{corners-few}
 
 -- two tests that hold together are one
 same-test : (p q : Bool) → (p ≡ true → q ≡ true) → (q ≡ true → p ≡ true) → p ≡ q
@@ -115,7 +115,7 @@ module _ (l : List ℤ) (a b i : ℕ) where
       omega (arith, h)
 
   pub asked-few : (k : ℕ) → Asked l a b i k → k ≤ length l
-  asked-few k h = omega (arith, h, choose-few (onEdge a b) (uses l), uses-long l, corners-few l)
+  asked-few k h = omega (arith, h, choose-few (onEdge a b) (uses l), uses-long l, corners-fit l)
 
 -- the answer: the check's refusal, then that of the pair, then the count
 module _ (l : List ℤ) (n : ℕ) (a b : ℤ) where

@@ -16,10 +16,10 @@ use lib.IntN.{ℤ, pos}
 use lib.ListN.{length, getD, length-append, length-map, List·getD-append, List·getD-map}
 use lib.Seq.{getD-append-add}
 use Rattle.list.specs.Faces.{isEnd, push, runs, corners, num, vertices}
-use Rattle.edges.specs.Choose.{upFrom}
+use Rattle.order.specs.Choose.{upFrom}
 use Rattle.edges.specs.Uses.{Use, usesToEnd, usesOfFace, usesFrom, uses, nextIn, cornersOf}
 use Rattle.edges.specs.Table.{vertexWords}
-use Rattle.edges.proofs.Lists.{upFrom-add, getD-upFrom, map-append}
+use Rattle.order.proofs.Lists.{upFrom-add, getD-upFrom, map-append}
 
 abbrev pub noUse : Use
 noUse = record { corner = 0; next = 0; from = 0; to = 0 }

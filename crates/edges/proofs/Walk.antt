@@ -4,25 +4,25 @@
 --   Written g b l i at w   the words that g gives of the uses before corner `at` stand in w from position b on
 use Prim.Native.Nat.{ℕ, suc, _+_, _*_, _-_, _≤_, _<_}
 use mathlib.Core.Path.{_≡_, sym, _∙_, ap}
-use mathlib.Core.Bool.{Bool, true, false, cond}
-use mathlib.Core.List.{List, [], _∷_, _++_, map, append-assoc, append-nil}
+use mathlib.Core.List.{List, [], _++_, map, append-assoc, append-nil}
 use mathlib.Core.Logic.{inl, inr}
 use native.Mathlib.Omega.{arith}
 use native.Mathlib.Nat.{zero-add}
 use lib.IntN.{ℤ}
 use lib.ListN.{length, getD, take, drop, length-append}
 use Rattle.list.specs.Limits.{maxEntries, maxVertices}
-use Rattle.list.specs.Faces.{isEnd, runs, corners, vertices}
+use Rattle.list.specs.Faces.{runs, vertices}
 use Rattle.list.specs.Check.{ValidFace, Valid}
 use Rattle.list.specs.declared.Cursor.{Cursor}
 use Rattle.list.proofs.Runs.{Stepped}
 use Rattle.list.proofs.Repeats.{vertices-long}
+use Rattle.list.proofs.Checking.{corners-fit}
+use Rattle.order.specs.Sort.{part}
+use Rattle.order.proofs.Lists.{map-append}
+use Rattle.order.proofs.Parts.{part-add, kept-part}
 use Rattle.edges.specs.Uses.{Use, usesOfFace, usesFrom, uses}
-use Rattle.edges.specs.Sort.{keyOf, part}
-use Rattle.edges.specs.Words.{cornerOf, FaceWritten}
-use Rattle.edges.proofs.Lists.{map-append}
+use Rattle.edges.specs.Words.{keyOf, cornerOf, FaceWritten}
 use Rattle.edges.proofs.Uses.{uses-long, uses-face-long}
-use Rattle.edges.proofs.Parts.{part-add, kept-part}
 
 pub record Walking (n : ℕ) (l : List ℤ) (i at : ℕ) : Type 0 where
   pub total : at + length (usesFrom at (runs (drop i l))) ≡ length (uses l)
@@ -95,17 +95,8 @@ module _ (n : ℕ) (l : List ℤ) (i at : ℕ) (d : drop i l ≡ []) (W : Walkin
   pub written-done : (g : Use → ℕ) (b : ℕ) (w : List ℕ) → Written g b l i at w → part b at w ≡ map g (uses l)
   written-done g b w h = sym (append-nil (part b at w)) ∙ (rw d at h)
 
--- a list has at most as many corners as entries
-pub corners-few : (l : List ℤ) → length (corners l) ≤ length l
-corners-few [] = omega arith
-corners-few (x ∷ xs) = go (isEnd x) (corners-few xs)
-  where
-    go : (b : Bool) → length (corners xs) ≤ length xs → length (cond b (corners xs) (x ∷ corners xs)) ≤ suc (length xs)
-    go true h = omega arith
-    go false h = omega arith
-
 pub few-corners : (l : List ℤ) (n : ℕ) → Valid l n → length (uses l) ≤ maxEntries
-few-corners l n v = omega (arith, uses-long l, corners-few l, v .few-entries)
+few-corners l n v = omega (arith, uses-long l, corners-fit l, v .few-entries)
 
 -- the keys and the corners' words, in two blocks of c words
 

@@ -1,7 +1,7 @@
 -- The edge table, and the answer to the edge question (document 01, "Numbers given back, and their order", code 10).
 --
---   mateWord c e m       the word for the mate m of corner e, of c corners: e itself where e's edge has one face, the other
---                        corner where it has two, c where it has more
+--   mateWords us         the words of the mates of the uses us, by crate mates' `mateWord`: the corner itself where its edge has one
+--                        face, the other corner where it has two, the number of corners where it has more
 --   tableOf l            four words a corner, in four blocks: each corner's next corner, its vertex, its mate's word, and 0
 --   isIndex n z          z is an index: from 0 to n-1
 --   edgeOf l n a b       the answer to the edge question
@@ -13,13 +13,9 @@ use lib.IntN.{ℤ, pos, negsuc}
 use lib.ListN.{length, replicate}
 use Rattle.list.specs.Faces.{num}
 use Rattle.list.specs.Check.{checkOf}
-use Rattle.edges.specs.Uses.{Use, uses, Mate, alone, other, many, mateOf, facesOn}
+use Rattle.mates.specs.Mates.{mateWord}
+use Rattle.edges.specs.Uses.{Use, uses, mateOf, facesOn}
 use Rattle.edges.specs.declared.EdgeAnswer.{EdgeAnswer}
-
-abbrev pub mateWord : ℕ → ℕ → Mate → ℕ
-mateWord c e alone = e
-mateWord c e (other f) = f
-mateWord c e many = c
 
 abbrev pub nextWords : List Use → List ℕ
 nextWords us = map (λ (u : Use). u .next) us

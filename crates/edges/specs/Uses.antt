@@ -9,18 +9,19 @@
 --   onEdge a b u       u is a use of the edge between a and b, whichever way it runs
 --   usesOn us a b      the uses of that edge
 --   facesOn l a b      the number of faces on that edge; 0 where it is no edge
---   isBoundary, isRegular, isSingular    of the number of faces on an edge: one, two, three or more
---   Mate               what a use meets across its edge: alone (no other face), the other use's corner, or many
---   mateOf us u        the mate of the use u
+--   isBoundary, isSingular    of the number of faces on an edge: one, three or more
+--   mateOf us u        the mate of the use u, what it meets across its edge: alone (no other face), the other use's corner, or many.
+--                      That is crate mates' `Mate`, by the corners of the uses of its edge
 --   singularEdges l    the number of edges of l with three or more faces
 use Prim.Native.Nat.{ℕ, suc, _+_, min, max}
 use mathlib.Core.List.{List, [], _∷_, _++_, map}
-use mathlib.Core.Bool.{Bool, false, cond, _&&_}
+use mathlib.Core.Bool.{Bool, cond, _&&_}
 use lib.Dec.{leb, eqb}
 use lib.IntN.{ℤ}
 use lib.ListN.{length}
 use Rattle.list.specs.Faces.{runs, vertices}
-use Rattle.edges.specs.Choose.{choose, count}
+use Rattle.order.specs.Choose.{choose, count}
+use Rattle.mates.specs.Mates.{Mate, mateAmong, startsMany}
 
 pub record Use : Type 0 where
   pub corner : ℕ
@@ -69,36 +70,14 @@ facesOn l a b = length (usesOn (uses l) a b)
 abbrev pub isBoundary : ℕ → Bool
 isBoundary faces = eqb faces 1
 
-abbrev pub isRegular : ℕ → Bool
-isRegular faces = eqb faces 2
-
 abbrev pub isSingular : ℕ → Bool
 isSingular faces = leb 3 faces
-
-pub data Mate : Type 0 where
-  alone : Mate
-  other : ℕ → Mate
-  many : Mate
-
--- the mate of corner c among the corners of the uses of its edge
-abbrev pub mateAmong : ℕ → List ℕ → Mate
-mateAmong c [] = alone
-mateAmong c (x ∷ []) = alone
-mateAmong c (x ∷ y ∷ []) = other (cond (eqb x c) y x)
-mateAmong c (x ∷ y ∷ z ∷ zs) = many
 
 abbrev pub cornersOf : List Use → List ℕ
 cornersOf us = map (λ (u : Use). u .corner) us
 
 abbrev pub mateOf : List Use → Use → Mate
 mateOf us u = mateAmong (u .corner) (cornersOf (usesOn us (u .from) (u .to)))
-
--- c is the first of three or more
-abbrev pub startsMany : ℕ → List ℕ → Bool
-startsMany c [] = false
-startsMany c (x ∷ []) = false
-startsMany c (x ∷ y ∷ []) = false
-startsMany c (x ∷ y ∷ z ∷ zs) = eqb x c
 
 -- u is the first use of a singular edge
 abbrev pub startsSingular : List Use → Use → Bool

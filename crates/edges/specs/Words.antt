@@ -1,5 +1,7 @@
--- A corner's next corner and its vertex in one word, and the passes that write these words and take them apart.
+-- The key of an edge, a corner's next corner and its vertex in one word, and the passes that write these words and take them apart.
 --
+--   pairKey a b                   the key of the edge between a and b: one number for both vertices, the lower one first
+--   keyOf u                       the key of the edge of the use u
 --   cornerWord next from          the word of a corner
 --   cornerOf u                    the word of the corner that the use u starts at
 --   cornerWords us                the words of the corners of the uses us
@@ -7,15 +9,21 @@
 --                                 into the first block of c words, then the corners' words into the fourth, and nothing else
 --   TakenApart c w w′             w′ has the next corners of w's words in its first block, their vertices in its second, w's third
 --                                 block, and 0 in its fourth
-use Prim.Native.Nat.{ℕ, _+_, _*_, _/_, _%_, _<_}
+use Prim.Native.Nat.{ℕ, _+_, _*_, _/_, _%_, _<_, min, max}
 use mathlib.Core.Path.{_≡_}
 use mathlib.Core.List.{List, map}
 use lib.IntN.{ℤ}
 use lib.ListN.{length, getD}
 use Rattle.list.specs.Limits.{maxVertices}
 use Rattle.list.specs.Faces.{vertices}
+use Rattle.order.specs.Sort.{part, Kept}
 use Rattle.edges.specs.Uses.{Use, usesOfFace}
-use Rattle.edges.specs.Sort.{keyOf, part, Kept}
+
+abbrev pub pairKey : ℕ → ℕ → ℕ
+pairKey a b = min a b * maxVertices + max a b
+
+abbrev pub keyOf : Use → ℕ
+keyOf u = pairKey (u .from) (u .to)
 
 abbrev pub cornerWord : ℕ → ℕ → ℕ
 cornerWord next from = next * maxVertices + from

@@ -7,8 +7,7 @@ ghost use lib.ListN.{length, getD};
 ghost use Rattle.list.specs.Limits.{maxEntries, maxVertices};
 ghost use Rattle.list.specs.Faces.{vertices};
 ghost use Rattle.edges.specs.Uses.{usesOfFace, usesOn, nextIn, isEdge};
-ghost use Rattle.edges.specs.Sort.{pairKey};
-ghost use Rattle.edges.specs.Words.{cornerWord, FaceWritten};
+ghost use Rattle.edges.specs.Words.{pairKey, cornerWord, FaceWritten};
 
 // The place that follows place i in a face of m corners: after the last the first.
 fn next_in(m: usize, i: usize) -> usize

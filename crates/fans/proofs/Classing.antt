@@ -10,10 +10,11 @@ use lib.Dec.{leb, ltb, eqb}
 use lib.IntN.{ℤ}
 use lib.ListN.{length, getD, take, drop, length-map, drop-of-length-le}
 use lib.Seq.{drop-cons, ext-getD}
-use Rattle.edges.specs.Choose.{All, choose, count}
+use Rattle.order.specs.Choose.{All, choose, count}
+use Rattle.order.proofs.Lists.{choose-none, choose-same}
+use Rattle.mates.specs.Mates.{mateWord}
 use Rattle.edges.specs.Uses.{Use, uses, isBoundary, isSingular}
-use Rattle.edges.specs.Table.{mateWord, tableOf}
-use Rattle.edges.proofs.Lists.{choose-none, choose-same}
+use Rattle.edges.specs.Table.{tableOf}
 use Rattle.edges.proofs.Uses.{useAt, next-below, to-next}
 use Rattle.edges.proofs.Mates.{word, facesAt, mate-alone, mate-many, word-alone, word-many}
 use Rattle.edges.proofs.Table.{table-next, table-vertex, table-mate}

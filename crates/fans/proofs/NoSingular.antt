@@ -8,8 +8,9 @@ use native.Mathlib.Omega.{arith}
 use borrow.Author.Tests.{eq-eqb, ne-eqb}
 use lib.IntN.{ℤ}
 use lib.ListN.{length, getD}
-use Rattle.edges.specs.Choose.{choose, count}
-use Rattle.edges.specs.Uses.{uses, many, startsMany, startsSingular, singularEdges}
+use Rattle.order.specs.Choose.{choose, count}
+use Rattle.mates.specs.Mates.{many, startsMany}
+use Rattle.edges.specs.Uses.{uses, startsSingular, singularEdges}
 use Rattle.edges.specs.Table.{tableOf}
 use Rattle.edges.proofs.Uses.{useAt, corner-at}
 use Rattle.edges.proofs.Mates.{mate, word, sharing, sharing-is, sharing-faces, in-sharing, sharing-same, mate-many, word-many}

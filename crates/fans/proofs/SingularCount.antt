@@ -13,7 +13,7 @@ use lib.IntN.{ℤ, pos}
 use lib.ListN.{length, getD, set, drop, replicate, length-set, getD-replicate, drop-of-length-le}
 use lib.Seq.{drop-cons}
 use Rattle.list.specs.Faces.{num, vertices}
-use Rattle.edges.specs.Choose.{choose, count}
+use Rattle.order.specs.Choose.{choose, count}
 use Rattle.fans.specs.Classes.{isSingularClass}
 use Rattle.groups.specs.Forest.{at, VertexWords}
 use Rattle.fans.specs.Marks.{touchesAt, marksEnd, singularWord, fanMark, finished}

@@ -14,7 +14,7 @@ use mathlib.Core.Bool.{Bool, false, cond, _&&_, _||_}
 use lib.Dec.{leb, ltb, eqb}
 use lib.IntN.{ℤ}
 use lib.ListN.{length}
-use Rattle.edges.specs.Choose.{count}
+use Rattle.order.specs.Choose.{count}
 use Rattle.edges.specs.Uses.{Use, uses, usesOn, isBoundary, isSingular}
 use Rattle.groups.specs.Groups.{upTo, fanLabels}
 use Rattle.groups.specs.Distinct.{distinct}

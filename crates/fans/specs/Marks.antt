@@ -12,7 +12,7 @@ use Prim.Native.Nat.{ℕ, zero, suc, _+_, _*_}
 use mathlib.Core.List.{List}
 use mathlib.Core.Bool.{Bool, false, cond, _&&_, _||_}
 use lib.Dec.{eqb}
-use Rattle.edges.specs.Choose.{count}
+use Rattle.order.specs.Choose.{count}
 use Rattle.groups.specs.Groups.{countFrom}
 use Rattle.groups.specs.Forest.{at, isRoot}
 

@@ -15,7 +15,7 @@ use mathlib.Core.List.{List}
 use mathlib.Core.Bool.{Bool, false, cond}
 use lib.Dec.{leb, eqb}
 use lib.ListN.{length, set}
-use Rattle.edges.specs.Choose.{count}
+use Rattle.order.specs.Choose.{count}
 use Rattle.groups.specs.Forest.{at}
 use Rattle.fans.specs.Marks.{marksEnd, singularWord}
 

@@ -9,7 +9,7 @@ use borrow.Author.Tests.{eqb-true, eqb-false, eq-eqb, ne-eqb, leb-true, leb-fals
 use lib.Dec.{leb, ltb, eqb}
 use lib.ListN.{length, drop, drop-of-length-le}
 use lib.Seq.{drop-cons}
-use Rattle.edges.specs.Choose.{choose}
+use Rattle.order.specs.Choose.{choose}
 use Rattle.groups.specs.Groups.{countFrom}
 use Rattle.groups.specs.Distinct.{isIn, distinctAfter, distinct}
 use Rattle.groups.specs.Forest.{at, Forest}

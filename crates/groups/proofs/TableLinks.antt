@@ -10,10 +10,11 @@ use lib.Dec.{leb, ltb, eqb}
 use lib.IntN.{ℤ}
 use lib.ListN.{length, drop, length-map, drop-of-length-le}
 use lib.Seq.{drop-cons}
-use Rattle.edges.specs.Uses.{uses, lo, hi, Mate, alone, other, many}
-use Rattle.edges.specs.Table.{mateWord, tableOf}
-use Rattle.edges.specs.Choose.{All}
-use Rattle.edges.proofs.Lists.{all-append}
+use Rattle.order.specs.Choose.{All}
+use Rattle.order.proofs.Lists.{all-append}
+use Rattle.mates.specs.Mates.{Mate, alone, other, many, mateWord}
+use Rattle.edges.specs.Uses.{uses, lo, hi}
+use Rattle.edges.specs.Table.{tableOf}
 use Rattle.edges.proofs.Uses.{useAt, corner-at, next-below, to-next}
 use Rattle.edges.proofs.Faces.{on-edge}
 use Rattle.edges.proofs.Mates.{mate, Regular, mate-regular}

@@ -17,7 +17,8 @@ use mathlib.Core.Bool.{Bool, true, cond, _&&_}
 use lib.Dec.{ltb, eqb}
 use lib.IntN.{ℤ}
 use lib.ListN.{length, getD}
-use Rattle.edges.specs.Uses.{Use, uses, Mate, alone, other, many, mateOf}
+use Rattle.mates.specs.Mates.{Mate, alone, other, many}
+use Rattle.edges.specs.Uses.{Use, uses, mateOf}
 
 pub record Link : Type 0 where
   pub one : ℕ

@@ -1,5 +1,5 @@
 -- The codes that the program prints: 14 exactly when the input is too large, and otherwise no code but 0 to 5 and 11 to 13.
-use Prim.Native.Nat.{ℕ, suc, _*_, _≤_, _<_}
+use Prim.Native.Nat.{ℕ, _*_, _≤_, _<_}
 use mathlib.Core.Path.{_≡_, refl, ap, _∙_}
 use mathlib.Core.Logic.{_↔_}
 use mathlib.Core.List.{List, [], _∷_, _++_, append-assoc}
@@ -10,12 +10,13 @@ use borrow.Author.Tests.{lt-ltb, le-ltb, eq-eqb, ne-eqb, eqb-true, eqb-false}
 use lib.Dec.{eqb, ltb}
 use lib.IntN.{ℤ}
 use lib.ListN.{length, drop}
-use Rattle.list.specs.Faces.{Face, isEnd, corners, faces}
+use Rattle.list.specs.Faces.{Face, corners, faces}
 use Rattle.list.specs.Check.{refused, byFault, faceFault, checkFaces, checkOf, accepted}
 use Rattle.list.specs.declared.FaceFault.{FaceFault}
 use Rattle.list.specs.declared.FaceFault.the-variants as Fault·
 use Rattle.list.specs.declared.CheckAnswer.{CheckAnswer}
 use Rattle.list.specs.Limits.{maxEntries, maxVertices}
+use Rattle.list.proofs.Checking.{corners-fit}
 use Rattle.text.specs.Tokens.{tokens}
 use Rattle.text.specs.Reading.{roomOf, readOf}
 use Rattle.number.specs.Decimal.{decimalText}
@@ -61,19 +62,11 @@ check-code l n = byEntries (ltb maxEntries (length l)) (ltb maxVertices n)
     byEntries false true = omega arith
     byEntries false false = byFaces (faces l)
 
-corners-few : (l : List ℤ) → length (corners l) ≤ length l
-corners-few [] = omega arith
-corners-few (x ∷ xs) = go (isEnd x) (corners-few xs)
-  where
-    go : (b : Bool) → length (corners xs) ≤ length xs → length (cond b (corners xs) (x ∷ corners xs)) ≤ suc (length xs)
-    go true h = omega arith
-    go false h = omega arith
-
 -- the program's buffers are never too short
 pub cut-code : (l : List ℤ) → Read l → cutAnswer l .code ≤ 5
 unfolding cutAnswer cutOf
 cut-code l read =
-    let c = corners-few l in
+    let c = corners-fit l in
     let h : length l ≤ inputEntries = read .few in
     rw (le-ltb inputEntries (length l) h, le-ltb inputEntries (length (corners l)) (omega arith), le-ltb (4 * inputEntries) (wordsNeeded l) (omega arith))
     (go (eqb (checkOf l (vertexCount l) .code) 0))

@@ -14,7 +14,7 @@ use lib.Dec.{eqb}
 use lib.ListN.{length, getD, set, take, drop, length-set, length-map, take-append-drop}
 use lib.Seq.{getD-set-same, getD-set-other, getD-take, getD-drop, drop-set-lt, ext-getD, length-take-le, take-at}
 use Rattle.list.specs.Faces.{corners}
-use Rattle.edges.specs.Choose.{choose}
+use Rattle.order.specs.Choose.{choose}
 use Rattle.groups.specs.Groups.{countFrom}
 use Rattle.groups.specs.Distinct.{placeIn, distinct}
 use Rattle.renumber.specs.Renumber.{newNumbers, newVertices, refilled, newListOf, mapOf}

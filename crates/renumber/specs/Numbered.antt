@@ -10,7 +10,7 @@ use mathlib.Core.List.{List, _++_, map}
 use lib.IntN.{ℤ, pos}
 use lib.ListN.{length, getD, drop}
 use Rattle.list.specs.Faces.{corners}
-use Rattle.edges.specs.Choose.{choose}
+use Rattle.order.specs.Choose.{choose}
 use Rattle.groups.specs.Groups.{countFrom}
 use Rattle.groups.specs.Forest.{at, Forest, VertexWords, isRoot}
 use Rattle.renumber.specs.Renumber.{newNumbers, newListOf, newVertices, mapOf}

@@ -1,14 +1,12 @@
 -- `edge_table` meets its contract: the keys pair the corners, the corners' words are taken apart, and the four blocks are the table.
-use Prim.Native.Nat.{ℕ, _*_, _/_, _≤_}
-use mathlib.Core.Path.{_≡_, sym, _∙_, ap}
-use mathlib.Core.List.{map}
+use Prim.Native.Nat.{_*_, _/_, _≤_}
+use mathlib.Core.Path.{_≡_, _∙_}
 use native.Mathlib.Omega.{arith}
 use borrow.Author.Needs.{needs}
 use lib.ListN.{length}
 use denote.Ref.{now}
 use Rattle.list.specs.Limits.{maxEntries}
 use Rattle.edges.specs.Uses.{uses}
-use Rattle.edges.specs.Sort.{keyOf, part}
 use Rattle.edges.proofs.Uses.{uses-long}
 use Rattle.edges.proofs.Walk.{valid-wider, few-corners}
 use Rattle.edges.proofs.Assembly.{keys-below, table-singular, table-is}

@@ -7,8 +7,8 @@ use denote.Ref.{now}
 use Rattle.list.specs.Limits.{maxVertices}
 use Rattle.list.proofs.Runs.{Stepped, step-stepped, step-last}
 use Rattle.list.proofs.Repeats.{vertices-long}
-use Rattle.edges.specs.Sort.{keyOf, part}
-use Rattle.edges.specs.Words.{cornerOf}
+use Rattle.order.specs.Sort.{part}
+use Rattle.edges.specs.Words.{keyOf, cornerOf}
 use Rattle.edges.proofs.Faces.{vertex-in}
 use Rattle.edges.proofs.Walk.{walking-start, written-start, walking-room, walking-valid, walking-done, written-done, few-corners, Wording, wording-turn}
 use Rattle.edges.proofs.write_words.Statement.{statement}

@@ -11,9 +11,9 @@ use lib.ListN.{length, getD, drop, drop-of-length-le}
 use denote.Ref.{now}
 use Rattle.list.specs.Faces.{num, vertices}
 use Rattle.list.proofs.Repeats.{vertices-long}
-use Rattle.edges.specs.Choose.{choose}
+use Rattle.order.specs.Choose.{choose}
 use Rattle.edges.specs.Uses.{usesOfFace, isEdge, onEdge, usesOn}
-use Rattle.edges.proofs.Lists.{choose-few}
+use Rattle.order.proofs.Lists.{choose-few}
 use Rattle.edges.proofs.Uses.{noUse, uses-face-long}
 use Rattle.edges.proofs.Filling.{place}
 use Rattle.edges.proofs.Question.{counted-one, counted-none}

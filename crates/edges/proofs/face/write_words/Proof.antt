@@ -10,11 +10,11 @@ use denote.Ref.{now}
 use Rattle.list.specs.Limits.{maxVertices}
 use Rattle.list.specs.Faces.{num, vertices}
 use Rattle.list.proofs.Repeats.{vertex-of}
+use Rattle.order.proofs.Filling.{filling-done}
 use Rattle.edges.specs.Uses.{usesOfFace}
-use Rattle.edges.specs.Sort.{pairKey, keyOf}
-use Rattle.edges.specs.Words.{cornerWord, cornerOf, cornerWords}
+use Rattle.edges.specs.Words.{pairKey, keyOf, cornerWord, cornerOf, cornerWords}
 use Rattle.edges.proofs.Uses.{next-inside, next-later}
-use Rattle.edges.proofs.Filling.{FillingTwo, two-none, two-long, two-turn, filling-done, words-long, key-word, corner-word}
+use Rattle.edges.proofs.Filling.{FillingTwo, two-none, two-long, two-turn, words-long, key-word, corner-word}
 use Rattle.edges.proofs.face.write_words.Statement.{statement}
 use Rattle.edges.proofs.face.write_words.Tie as tie
 
