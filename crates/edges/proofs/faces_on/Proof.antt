@@ -17,9 +17,18 @@ use Rattle.edges.proofs.faces_on.Tie as tie
 check-requires : tie.Need-check-requires
 check-requires c κs = search needs
 
+is-pair-requires : tie.Need-is-pair-requires
+is-pair-requires c κs = search needs
+
 -- the check's code, as the definition has it
-code : (c : tie.After-check) → checkOf (now (c .before .args .list)) (c .before .args .n) .code ≡ c .check .result .code
-code c = sym (ap (λ (r : CheckAnswer). r .code) (c .check .ensures))
+code : (c : tie.After-is-pair) → checkOf (now (c .before .before .args .list)) (c .before .before .args .n) .code ≡ c .before .check .result .code
+code c = sym (ap (λ (r : CheckAnswer). r .code) (c .before .check .ensures))
+
+-- the pair's test, of the numbers as they came
+pair : (c : tie.After-is-pair) → isPair (c .before .before .args .n) (c .before .before .args .a) (c .before .before .args .b) ≡ c .is-pair .result
+pair c =
+    let s = c .before .before in
+    sym (c .is-pair .ensures ∙ ap₂ (isPair (s .args .n)) (toZ-ofZ w32 (s .args .a) (s .fits .a)) (toZ-ofZ w32 (s .args .b) (s .fits .b)))
 
 refused-requires : tie.Need-refused-requires
 refused-requires c κs = search needs
@@ -27,18 +36,10 @@ refused-requires c κs = search needs
 returns : tie.Need-returns
 returns d =
     let c = d .before in
-    let s = c .before .before in
+    let p = c .before in
+    let s = p .before .before in
     d .refused .ensures ∙
-    ap (λ (r : CheckAnswer). edgeAnswer (r .code) (r .place) 0) (c .before .check .ensures) ∙ edge-refused (now (s .args .list)) (s .args .n) (s .args .a) (s .args .b) (λ e. c .if1 .taken (sym (code (c .before)) ∙ e))
-
-is-pair-requires : tie.Need-is-pair-requires
-is-pair-requires c κs = search needs
-
--- the pair's test, of the numbers as they came
-pair : (c : tie.After-is-pair) → isPair (c .before .before .before .args .n) (c .before .before .before .args .a) (c .before .before .before .args .b) ≡ c .is-pair .result
-pair c =
-    let s = c .before .before .before in
-    sym (c .is-pair .ensures ∙ ap₂ (isPair (s .args .n)) (toZ-ofZ w32 (s .args .a) (s .fits .a)) (toZ-ofZ w32 (s .args .b) (s .fits .b)))
+    ap (λ (r : CheckAnswer). edgeAnswer (r .code) (r .place) 0) (p .before .check .ensures) ∙ edge-refused (now (s .args .list)) (s .args .n) (s .args .a) (s .args .b) (λ e. c .if1 .taken (sym (code p) ∙ e))
 
 refused-requires-2 : tie.Need-refused-requires-2
 refused-requires-2 c κs = search needs
@@ -46,10 +47,11 @@ refused-requires-2 c κs = search needs
 returns-2 : tie.Need-returns-2
 returns-2 d =
     let c = d .before in
-    let e = c .before .before in
-    let s = e .before .before in
+    let e = c .before in
+    let p = e .before in
+    let s = p .before .before in
     d .refused2 .ensures ∙
-    edge-no-pair (now (s .args .list)) (s .args .n) (s .args .a) (s .args .b) (code (e .before) ∙ e .if1 .left) (pair (c .before) ∙ not-true _ (c .if2 .taken))
+    edge-no-pair (now (s .args .list)) (s .args .n) (s .args .a) (s .args .b) (code p ∙ e .if1 .left) (pair p ∙ not-true _ (c .if2 .taken))
 
 number-requires : tie.Need-number-requires
 number-requires c κs = search needs
@@ -63,20 +65,21 @@ count-faces-requires c κs = search needs
 returns-3 : tie.Need-returns-3
 returns-3 c =
     let f = c .before .before .before in
-    let e = f .before .before in
-    let s = e .before .before in
+    let e = f .before in
+    let p = e .before in
+    let s = p .before .before in
     let a = c .before .before .number .ensures ∙ ap num (toZ-ofZ w32 (s .args .a) (s .fits .a)) in
     let b = c .before .number2 .ensures ∙ ap num (toZ-ofZ w32 (s .args .b) (s .fits .b)) in
-    ap (edgeAnswer 0 0) (c .count-faces .ensures ∙ ap₂ (facesOn (now (s .args .list))) a b) ∙ edge-counted (now (s .args .list)) (s .args .n) (s .args .a) (s .args .b) (code (e .before) ∙ e .if1 .left) (pair (f .before) ∙ not-false _ (f .if2 .left))
+    ap (edgeAnswer 0 0) (c .count-faces .ensures ∙ ap₂ (facesOn (now (s .args .list))) a b) ∙ edge-counted (now (s .args .list)) (s .args .n) (s .args .a) (s .args .b) (code p ∙ e .if1 .left) (pair p ∙ not-false _ (f .if2 .left))
 
 pub faces-on-spec : {M : Type 1} → statement M
 faces-on-spec =
     tie.close
     (tie.spec
     check-requires
+    is-pair-requires
     refused-requires
     returns
-    is-pair-requires
     refused-requires-2
     returns-2
     number-requires
