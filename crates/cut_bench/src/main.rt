@@ -8,6 +8,8 @@ ghost use Rattle.list.specs.Limits.{maxEntries};
 
 const LIMIT: usize = list::IndexList::MAX_ENTRIES;
 
+const LAST_FACE: usize = LIMIT - 4;
+
 // Two tetrahedra on one edge.
 const BODIES: [i32; 32] = [
     0,
@@ -151,7 +153,7 @@ fn fill_fan(list: &mut [i32])
         put_face(list, 4 * (5461 + k), at + 3, at + 4);
         put_face(list, 4 * (10922 + k), at + 1, at + 2);
     }
-    put_face(list, 65532, 16390, 16391);
+    put_face(list, LAST_FACE, 16390, 16391);
 }
 
 // Cuts a list of 65,536 entries, and prints the seven numbers, the first entries and how many words of work were kept.

@@ -1,6 +1,7 @@
 -- `matching::match_corners` meets its contract: with 0 at every vertex none has met.
 use borrow.Author.Needs.{needs}
 use denote.Ref.{now}
+use Rattle.list.specs.Limits.{maxVertices}
 use Rattle.mates.proofs.Meeting.{none-met}
 use Rattle.mates.proofs.matching.match_corners.Statement.{statement}
 use Rattle.mates.proofs.matching.match_corners.Tie as tie
@@ -12,7 +13,7 @@ meet-all-requires : tie.Need-meet-all-requires
 meet-all-requires c κs =
     let t = c .before .before in
     let s = t .before .before in
-    none-met (s .args .c) (s .args .n) 4096 (now (s .args .work)) (s .pre .0) (s .pre .2) (t .if1 .taken)
+    none-met (s .args .c) (s .args .n) _ (now (s .args .work)) (s .pre .0) (s .pre .2) (t .if1 .taken)
 
 same-length : tie.Need-same-length
 same-length c = search needs
@@ -26,7 +27,7 @@ slice-aggregate-meet-all-2 c = search needs
 meet-all-requires-2 : tie.Need-meet-all-requires-2
 meet-all-requires-2 c κs =
     let s = c .before .before .before .before in
-    none-met (s .args .c) (s .args .n) 65536 (now (s .args .work)) (s .pre .0) (s .pre .2) (s .pre .1)
+    none-met (s .args .c) (s .args .n) maxVertices (now (s .args .work)) (s .pre .0) (s .pre .2) (s .pre .1)
 
 same-length-2 : tie.Need-same-length-2
 same-length-2 c = search needs
