@@ -11,12 +11,11 @@ use lib.ListN.{length, getD, take, drop, replicate, length-map, length-replicate
 use lib.Seq.{length-take-le, take-at}
 use Rattle.list.specs.Faces.{corners, num, vertices}
 use Rattle.list.specs.Check.{Valid}
-use Rattle.order.specs.Choose.{All, choose, count}
-use Rattle.order.proofs.Lists.{all-at, choose-few}
+use Rattle.order.specs.Choose.{All, choose, count, upFrom}
+use Rattle.order.proofs.Lists.{all-at, choose-few, length-upFrom}
 use Rattle.edges.specs.Uses.{singularEdges}
 use Rattle.edges.proofs.Uses.{uses-long}
-use Rattle.groups.specs.Groups.{countFrom, upTo, groupLabels, fanLabels}
-use Rattle.groups.specs.Distinct.{placeIn, distinct}
+use Rattle.groups.specs.Groups.{groupLabels, fanLabels}
 use Rattle.renumber.specs.Renumber.{mapOf}
 use Rattle.fans.specs.Classes.{classOf, classesOf, isSingularClass, singularVertices}
 use Rattle.groups.specs.Forest.{at, Forest, VertexWords, Grouped, isRoot}
@@ -24,10 +23,10 @@ use Rattle.renumber.specs.Numbered.{CornerWords, rootVertices, Renumbered}
 use Rattle.cut.specs.Made.{GroupsCut, CutMade}
 use Rattle.fans.specs.Marks.{rootsOn, marksEnd, boundaryWord, singularWord}
 use Rattle.fans.specs.Singular.{isSingularMark, afterFans, EndsCounted, FansCounted}
-use Rattle.groups.proofs.Counting.{map-at, length-countFrom, at-countFrom}
+use Rattle.renumber.proofs.Sizes.{map-length}
 use Rattle.renumber.proofs.Numbering.{map-of-roots}
 use Rattle.fans.proofs.SingularCount.{mark-class, count-same}
-use Rattle.fans.proofs.Classing.{grouped-class}
+use Rattle.fans.proofs.Classing.{classes-length, classes-at, grouped-class}
 use Rattle.cut.proofs.Words.{words-of-groups, corner-words}
 
 -- m marks that are all 0, and the part for n vertices
@@ -57,7 +56,7 @@ vertices-back (v ∷ vs) = ap (λ (r : List ℕ). v ∷ r) (vertices-back vs)
 module _ (w : List ℕ) (c : ℕ) where
   roots-few : (m s : ℕ) → length (rootVertices w c s m) ≤ m
   roots-few m s =
-      omega (arith, length-map (choose (isRoot w c) (countFrom s m)) (λ (i : ℕ). at w (c + i)), choose-few (isRoot w c) (countFrom s m), length-countFrom s m)
+      omega (arith, length-map (choose (isRoot w c) (upFrom s m)) (λ (i : ℕ). at w (c + i)), choose-few (isRoot w c) (upFrom s m), length-upFrom s m)
 
   roots-inside : (n m s : ℕ) → ((i : ℕ) → i < s + m → at w (c + i) < n) → All (λ (v : ℕ). v < n) (rootVertices w c s m)
   roots-inside n zero s f = tt
@@ -97,8 +96,7 @@ module _ (l : List ℤ) (n c : ℕ) (ok : Valid l n) (w : List ℕ) (G : Grouped
 
   module _ (r : ℕ) (newList old new : List ℤ) (R : Renumbered l (groupLabels l) r newList old new) where
     map-long : length (mapOf l (groupLabels l)) ≡ r
-    unfolding mapOf
-    map-long = length-map (distinct (groupLabels l)) (λ (x : ℕ). getD (corners l) (placeIn x (groupLabels l)) (pos 0)) ∙ sym (R .count)
+    map-long = map-length l (groupLabels l) ∙ sym (R .count)
 
     roots-are : mapOf l (groupLabels l) ≡ map pos (rootVertices w c 0 c)
     roots-are = map-of-roots l w c entry-words (groupLabels l) groups-forest
@@ -134,15 +132,12 @@ module _ (l : List ℤ) (n c : ℕ) (ok : Valid l n) (w : List ℕ) (G : Grouped
           ap isSingularClass (grouped-class l c w G v)
 
       points-are : s + t ≡ singularVertices l n
-      unfolding singularVertices classesOf
+      unfolding singularVertices
       points-are =
-          let row : length (upTo n) ≡ n = length-countFrom 0 n in
           let all : s + t ≡ count isSingularMark ys = omega (arith, E .counted, F .counted) in
           all ∙
-          count-same isSingularMark isSingularClass ys (map (classOf l) (upTo n)) (kept ∙ long ∙ sym (length-map (upTo n) (classOf l) ∙ row))
-          (λ v i.
-          let z : at (upTo n) v ≡ v = at-countFrom 0 n v (omega arith) ∙ omega arith in
-          same-class v (omega arith) ∙ ap isSingularClass (sym (map-at (classOf l) (upTo n) v (omega arith) ∙ ap (classOf l) z)))
+          count-same isSingularMark isSingularClass ys (classesOf l n) (kept ∙ long ∙ sym (classes-length l n))
+          (λ v i. same-class v (omega arith) ∙ ap isSingularClass (sym (classes-at l n v (omega arith))))
 
       pub groups-cut : GroupsCut l n r (s + t) newList old new
       groups-cut = record { renumbered = R; points-are = points-are }

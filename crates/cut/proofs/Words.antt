@@ -9,9 +9,9 @@ use Rattle.list.specs.Faces.{runs, corners, num}
 use Rattle.list.specs.Check.{ValidFace, Valid}
 use Rattle.order.specs.Choose.{All}
 use Rattle.order.proofs.Lists.{all-of, all-at, all-append}
-use Rattle.edges.specs.Uses.{uses}
+use Rattle.edges.specs.Uses.{uses, useAt}
 use Rattle.edges.specs.Table.{tableOf}
-use Rattle.edges.proofs.Uses.{uses-long, useAt, joined, corners-joined, from-at}
+use Rattle.edges.proofs.Uses.{joined, corners-joined, from-at}
 use Rattle.edges.proofs.Faces.{use-proper}
 use Rattle.edges.proofs.Table.{table-vertex}
 use Rattle.groups.specs.Forest.{at, VertexWords, Grouped}
@@ -33,13 +33,10 @@ faces-natural n [] v = tt
 faces-natural n (r ∷ rs) v =
     all-append Natural r (joined rs) (all-of Natural (pos 0) r (λ i h. let x = v 0 (omega arith) .inside i h .1 in x ∙ ap (λ (z : ℤ). pos (num z)) (sym x))) (faces-natural n rs (λ k h. v (suc k) (omega arith)))
 
-corner-entry : (l : List ℤ) (n : ℕ) → Valid l n → (e : ℕ) → e < length (corners l) → getD (corners l) e (pos 0) ≡ pos (num (getD (corners l) e (pos 0)))
+pub corner-entry : (l : List ℤ) (n : ℕ) → Valid l n → (e : ℕ) → e < length (corners l) → getD (corners l) e (pos 0) ≡ pos (num (getD (corners l) e (pos 0)))
 corner-entry l n ok e h = all-at Natural (pos 0) (corners l) (rw (corners-joined l) (faces-natural n (runs l) (ok .each-face))) e h
 
 module _ (l : List ℤ) (n c : ℕ) (ok : Valid l n) (q : c ≡ length (corners l)) where
-  uses-are : c ≡ length (uses l)
-  uses-are = q ∙ sym (uses-long l)
-
   pub words-of-groups : (w : List ℕ) → Grouped l c w → VertexWords w c n
   words-of-groups w G =
       record {
@@ -50,8 +47,8 @@ module _ (l : List ℤ) (n c : ℕ) (ok : Valid l n) (q : c ≡ length (corners 
     where
       inside : (e : ℕ) → e < c → at w (c + e) < n
       inside e h =
-          let u : e < length (uses l) = omega (arith, uses-are) in
-          let v : at (tableOf l) (c + e) ≡ useAt l e .from = rw uses-are (table-vertex l e u) in
+          let u : e < length (uses l) = omega (arith, G .count) in
+          let v : at (tableOf l) (c + e) ≡ useAt l e .from = rw (G .count) (table-vertex l e u) in
           omega (arith, word-kept (tableOf l) w (3 * c) (c + e) (G .front) (omega arith), v, use-proper l n ok e u .from-in)
 
   -- the vertices of the table are the list's entries
@@ -61,7 +58,7 @@ module _ (l : List ℤ) (n c : ℕ) (ok : Valid l n) (q : c ≡ length (corners 
         count = sym q;
         words = words-more w c n (2 ^ 31) (omega (arith, ok .few-vertices)) (words-of-groups w G);
         entries = λ e h.
-            let u : e < length (uses l) = omega (arith, uses-are) in
-            let v : at (tableOf l) (c + e) ≡ useAt l e .from = rw uses-are (table-vertex l e u) in
+            let u : e < length (uses l) = omega (arith, G .count) in
+            let v : at (tableOf l) (c + e) ≡ useAt l e .from = rw (G .count) (table-vertex l e u) in
             corner-entry l n ok e (omega arith) ∙ ap pos (sym (word-kept (tableOf l) w (3 * c) (c + e) (G .front) (omega arith) ∙ v ∙ from-at l e));
       }

@@ -6,7 +6,6 @@ use mathlib.Core.List.{List, [], _∷_, map}
 use lib.IntN.{ℤ, pos, negsuc}
 use lib.ListN.{length, take, replicate}
 use Rattle.list.specs.Check.{checkOf, faceFault, checkFaces}
-use Rattle.edges.specs.Uses.{uses}
 use Rattle.groups.specs.Groups.{groupLabels, fanLabels, links, labelsOf}
 use Rattle.renumber.specs.Renumber.{newListOf, newNumbers, mapOf}
 use Rattle.fans.specs.Classes.{classesOf, classOf, fansAt, singularVertices}

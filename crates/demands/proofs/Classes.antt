@@ -12,15 +12,15 @@ use lib.ListN.{length, getD}
 use Rattle.list.specs.Check.{Valid}
 use Rattle.order.specs.Choose.{choose}
 use Rattle.order.proofs.Lists.{In}
-use Rattle.edges.specs.Uses.{Use, uses, lo, hi, usesOn, facesOn, onEdge, isBoundary, isSingular}
-use Rattle.edges.proofs.Uses.{noUse, uses-long, from-at, next-below}
+use Rattle.edges.specs.Uses.{Use, uses, lo, hi, usesOn, facesOn, onEdge, isBoundary, isSingular, noUse, useAt}
+use Rattle.edges.proofs.Uses.{uses-long, from-at, next-below}
 use Rattle.edges.proofs.Faces.{and-true}
 use Rattle.edges.proofs.Mates.{sharing, sharing-faces, sharing-same, in-sharing}
 use Rattle.groups.specs.Groups.{everyEdge, groupsOfUses, fanLabels}
 use Rattle.groups.specs.Distinct.{distinct}
 use Rattle.fans.specs.Classes.{touches, endsEdgeOf, endsEdge, hasFace, labelsAt, fansAt, classOf}
 use Rattle.demands.specs.Renumbered.{Corner, vertexAt}
-use Rattle.demands.specs.Linked.{useAt, OneFan}
+use Rattle.demands.specs.Linked.{OneFan}
 use Rattle.demands.specs.Labelling.{labelAt}
 use Rattle.demands.specs.Classed.{Used, Standalone, EndsSingular, EndsBoundary, ManyFans}
 use Rattle.demands.proofs.Distinct.{Different, distinct-has, distinct-of, distinct-different, two-in}

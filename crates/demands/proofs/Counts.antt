@@ -2,9 +2,8 @@
 use Prim.Native.Nat.{ℕ, zero, suc, _≤_, _<_, min, max}
 use mathlib.Core.Path.{_≡_, refl, sym, _∙_, ap, ap₂}
 use mathlib.Core.Bool.{Bool, true, false, cond, _&&_, false≢true}
-use mathlib.Core.List.{List, [], _∷_, map}
+use mathlib.Core.List.{List, [], _∷_}
 use mathlib.Core.Logic.{_⊎_, inl, inr, ⊎-elim}
-use native.Mathlib.Nat.{zero-add}
 use native.Mathlib.Omega.{arith}
 use borrow.Author.Tests.{eqb-true, eq-eqb, ltb-true, ltb-false, leb-true, le-leb}
 use lib.Dec.{eqb, ltb}
@@ -12,19 +11,15 @@ use lib.IntN.{ℤ}
 use lib.ListN.{length, getD, length-map}
 use Rattle.list.specs.Check.{Valid}
 use Rattle.order.specs.Choose.{choose, upFrom}
-use Rattle.order.proofs.Lists.{In, in-choose, in-chosen, in-at, choose-map, in-upFrom, upFrom-in, Rising, rising-upFrom, rising-choose, rising-above, all-at, from-table}
+use Rattle.order.proofs.Lists.{In, in-choose, in-chosen, in-at, at-in, choose-map, in-upFrom, upFrom-in, Rising, rising-upFrom, rising-choose, rising-above, all-at, from-table}
 use Rattle.mates.specs.Mates.{startsMany}
-use Rattle.edges.specs.Uses.{Use, uses, lo, hi, isBoundary, isSingular, startsSingular, singularEdges}
-use Rattle.edges.proofs.Uses.{noUse, corner-at}
+use Rattle.edges.specs.Uses.{Use, uses, lo, hi, isBoundary, isSingular, startsSingular, singularEdges, noUse, useAt}
+use Rattle.edges.proofs.Uses.{corner-at}
 use Rattle.edges.proofs.Faces.{on-edge, use-proper, Proper}
 use Rattle.edges.proofs.Mates.{sharing, sharing-is, sharing-faces, in-sharing}
-use Rattle.groups.specs.Groups.{countFrom}
 use Rattle.fans.specs.Classes.{hasFace, endsEdge, fansAt, classOf, classesOf, isSingularClass, singularVertices}
-use Rattle.demands.specs.Linked.{useAt}
 use Rattle.demands.specs.Counted.{Counted, SingularEdge, SingularVertex}
-use Rattle.demands.proofs.Labels.{countFrom-length, countFrom-at}
-use Rattle.demands.proofs.Numbering.{getD-mapped}
-use Rattle.demands.proofs.Distinct.{equal-or-not, at-in}
+use Rattle.demands.proofs.Distinct.{equal-or-not}
 
 -- numbers that rise stand at one place each
 
@@ -46,7 +41,7 @@ rising-once s xs i j r h k e = go (ltb i j) refl (ltb j i) refl
 counted-chosen : (p : ℕ → Bool) (m : ℕ) → Counted (λ (x : ℕ). (x < m) × (p x ≡ true)) (length (choose p (upFrom 0 m)))
 counted-chosen p m = record {
   nth = λ i. getD xs i 0;
-  each = λ i h. let r = in-chosen p (getD xs i 0) (upFrom 0 m) (at-in xs i h) in (omega (arith, upFrom-in 0 m (getD xs i 0) (r .0)), r .1);
+  each = λ i h. let r = in-chosen p (getD xs i 0) (upFrom 0 m) (at-in 0 xs i h) in (omega (arith, upFrom-in 0 m (getD xs i 0) (r .0)), r .1);
   all = λ x h. in-at 0 x xs (in-choose p x (upFrom 0 m) (in-upFrom 0 m x (omega arith) (omega (arith, h .0))) (h .1));
   once = λ i j h k e. rising-once 0 xs i j (rising-choose p 0 (upFrom 0 m) (rising-upFrom 0 m)) h k e;
 }
@@ -68,10 +63,6 @@ pub counted-none : {A : Type 0} {P : A → Type 0} {m : ℕ} → ((a : A) → P 
 counted-none {m = zero} none c = refl
 counted-none {m = suc m} none c = absurd (none (c .nth 0) (c .each 0 (omega arith)))
 
-row-same : (s m : ℕ) → countFrom s m ≡ upFrom s m
-row-same s zero = refl
-row-same s (suc m) = ap (λ (xs : List ℕ). s ∷ xs) (row-same (suc s) m)
-
 pub class-few : (l : List ℤ) (v : ℕ) → classOf l v ≤ 4
 unfolding classOf
 class-few l v = go (hasFace (uses l) v) (endsEdge isSingular (uses l) v) (ltb 1 (fansAt l v)) (endsEdge isBoundary (uses l) v)
@@ -88,18 +79,7 @@ module _ (l : List ℤ) (n : ℕ) where
   unfolding singularVertices classesOf
   chosen-vertices =
       sym (length-map (choose (λ (v : ℕ). isSingularClass (classOf l v)) (upFrom 0 n)) (classOf l)) ∙
-      ap length (sym (choose-map isSingularClass (classOf l) (upFrom 0 n))) ∙
-      ap (λ (vs : List ℕ). length (choose isSingularClass (map (classOf l) vs))) (sym (row-same 0 n))
-
-  -- the classes stand in the order of the vertices
-  pub classes-length : length (classesOf l n) ≡ n
-  unfolding classesOf
-  classes-length = length-map (countFrom 0 n) (classOf l) ∙ countFrom-length 0 n
-
-  pub classes-at : (v : ℕ) → v < n → getD (classesOf l n) v 0 ≡ classOf l v
-  unfolding classesOf
-  classes-at v h =
-      getD-mapped (classOf l) (countFrom 0 n) v 0 0 (rw countFrom-length h) ∙ ap (classOf l) (countFrom-at 0 n v h ∙ zero-add v)
+      ap length (sym (choose-map isSingularClass (classOf l) (upFrom 0 n)))
 
   pub singular-vertices : Counted (SingularVertex l n) (singularVertices l n)
   singular-vertices = counted-through (SingularVertex l n) (λ (v : ℕ). v) into onto (λ u v p q e. e) (rw chosen-vertices at (counted-chosen (λ (v : ℕ). isSingularClass (classOf l v)) n))

@@ -14,13 +14,13 @@ use borrow.Author.Tests.{ltb-true, ltb-false, lt-ltb, le-ltb}
 use lib.Dec.{ltb}
 use lib.IntN.{ℤ}
 use lib.ListN.{length}
-use Rattle.edges.specs.Uses.{Use, onEdge, facesOn}
+use Rattle.edges.specs.Uses.{Use, onEdge, facesOn, useAt}
 use Rattle.edges.proofs.Uses.{uses-long, from-at, to-next}
 use Rattle.edges.proofs.Faces.{on-edge, edge-on}
 use Rattle.edges.proofs.Mates.{sharing, sharing-faces, sharing-same, shares, is-here}
 use Rattle.demands.specs.Joined.{Side, starts, stops, opposite}
 use Rattle.demands.specs.Renumbered.{Corner, vertexAt}
-use Rattle.demands.specs.Linked.{useAt, cornerBy, Across}
+use Rattle.demands.specs.Linked.{cornerBy, Across}
 use Rattle.demands.proofs.Walk.{Meeting}
 use Rattle.demands.proofs.Distinct.{equal-or-not, three-in}
 use Rattle.demands.proofs.Corners.{next, Cornered}

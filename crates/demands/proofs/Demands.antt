@@ -20,9 +20,12 @@ use Rattle.order.specs.Choose.{count}
 use Rattle.edges.specs.Uses.{Use, uses, facesOn, singularEdges}
 use Rattle.edges.proofs.Faces.{hasEdge, uses-are-faces}
 use Rattle.groups.specs.Groups.{everyEdge, groupsOfUses, groupLabels}
+use Rattle.renumber.proofs.Sizes.{map-length}
 use Rattle.renumber.specs.Renumber.{newListOf, newVertices}
+use Rattle.fans.proofs.Classing as Classing
 use Rattle.fans.specs.Classes.{classOf, classesOf, singularVertices}
 use Rattle.cut.specs.Cut.{cutAccepted}
+use Rattle.cut.proofs.Words.{corner-entry}
 use Rattle.demands.specs.Joined.{Equivalence, Joined}
 use Rattle.demands.specs.Renumbered.{Corner, vertexAt, ends, mapped, FirstUse}
 use Rattle.demands.specs.Linked.{Linked, OneFan}
@@ -32,7 +35,6 @@ use Rattle.demands.specs.Counted.{Counted, SingularEdge, SingularVertex}
 use Rattle.demands.specs.Cutting.{Accepted, newList, newMap, newCount, IsNewList}
 use Rattle.demands.proofs.Equivalence.{joined-equivalence, joined-least, joined-equal}
 use Rattle.demands.proofs.Numbering as Numbering
-use Rattle.demands.proofs.Corners.{corner-entry}
 use Rattle.demands.proofs.Result as Result
 use Rattle.demands.proofs.Fewest as Fewest
 use Rattle.demands.proofs.Classes as Classes
@@ -69,7 +71,7 @@ module _ (l : List ℤ) (n : ℕ) (accepted : Accepted l n) where
 
   -- the map has an entry for each new vertex: the input vertex of its corners
   pub map-for-each : length (newMap l) ≡ newCount l
-  map-for-each = Numbering.map-length l (groupLabels l) groups-length
+  map-for-each = map-length l (groupLabels l)
 
   pub map-entry : (x : ℕ) → Corner l x → getD (newMap l) (vertexAt (newList l) x) (pos 0) ≡ getD (corners l) x (pos 0)
   map-entry x h =
@@ -136,10 +138,10 @@ module _ (l : List ℤ) (n : ℕ) (accepted : Accepted l n) where
 
   -- "the ... classes are those of document 01, each also stated in its words"
   pub classes-length : length (classesOf l n) ≡ n
-  classes-length = Counts.classes-length l n
+  classes-length = Classing.classes-length l n
 
   pub classes-at : (v : ℕ) → v < n → getD (classesOf l n) v 0 ≡ classOf l v
-  classes-at = Counts.classes-at l n
+  classes-at = Classing.classes-at l n
 
   module _ (v : ℕ) where
     -- 0 standalone (no face)

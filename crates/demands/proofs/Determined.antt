@@ -1,6 +1,6 @@
 -- "Any two results that its contract admits coincide", for every public function. `Learnt` is what a caller learns from the contract: of
 -- the arguments, the answer, and the arguments as the call leaves them.
-use mathlib.Core.Path.{_≡_, sym, _∙_}
+use mathlib.Core.Path.{_≡_, _∙⁻¹_}
 use contract.Lifetimes.{Lfts}
 use denote.Ref.{now}
 use Rattle.list.proofs.IndexList.max_entries.Reads as max-entries
@@ -19,55 +19,52 @@ use Rattle.edges.proofs.edge_table.Reads as edge-table
 use Rattle.cut.proofs.classes.Reads as classes
 use Rattle.cut.proofs.cut.Reads as cut
 
-coincide : {A : Type 0} {x y z : A} → x ≡ z → y ≡ z → x ≡ y
-coincide p q = p ∙ sym q
-
 -- list
 pub max-entries-determined : (κs : Lfts 0) (a : _) (r₁ r₂ : _) (s₁ s₂ : _) → max-entries.Learnt κs a r₁ s₁ → max-entries.Learnt κs a r₂ s₂ → r₁ ≡ r₂
-max-entries-determined κs a r₁ r₂ s₁ s₂ p q = coincide p q
+max-entries-determined κs a r₁ r₂ s₁ s₂ p q = p ∙⁻¹ q
 
 pub max-vertices-determined : (κs : Lfts 0) (a : _) (r₁ r₂ : _) (s₁ s₂ : _) → max-vertices.Learnt κs a r₁ s₁ → max-vertices.Learnt κs a r₂ s₂ → r₁ ≡ r₂
-max-vertices-determined κs a r₁ r₂ s₁ s₂ p q = coincide p q
+max-vertices-determined κs a r₁ r₂ s₁ s₂ p q = p ∙⁻¹ q
 
 pub cursor-determined : (κs : Lfts 0) (a : _) (r₁ r₂ : _) (s₁ s₂ : _) → cursor.Learnt κs a r₁ s₁ → cursor.Learnt κs a r₂ s₂ → r₁ ≡ r₂
-cursor-determined κs a r₁ r₂ s₁ s₂ p q = λ i. record { at = coincide p q i }
+cursor-determined κs a r₁ r₂ s₁ s₂ p q = λ i. record { at = (p ∙⁻¹ q) i }
 
 pub next-determined : (κs : Lfts 1) (a : _) (r₁ r₂ : _) (s₁ s₂ : _) → next.Learnt κs a r₁ s₁ → next.Learnt κs a r₂ s₂ → r₁ ≡ r₂
-next-determined κs a r₁ r₂ s₁ s₂ p q = coincide p q
+next-determined κs a r₁ r₂ s₁ s₂ p q = p ∙⁻¹ q
 
 pub vertex-at-determined : (κs : Lfts 1) (a : _) (r₁ r₂ : _) (s₁ s₂ : _) → vertex-at.Learnt κs a r₁ s₁ → vertex-at.Learnt κs a r₂ s₂ → r₁ ≡ r₂
-vertex-at-determined κs a r₁ r₂ s₁ s₂ p q = coincide p q
+vertex-at-determined κs a r₁ r₂ s₁ s₂ p q = p ∙⁻¹ q
 
 pub check-determined : (κs : Lfts 1) (a : _) (r₁ r₂ : _) (s₁ s₂ : _) → check.Learnt κs a r₁ s₁ → check.Learnt κs a r₂ s₂ → r₁ ≡ r₂
-check-determined κs a r₁ r₂ s₁ s₂ p q = coincide p q
+check-determined κs a r₁ r₂ s₁ s₂ p q = p ∙⁻¹ q
 
 pub face-span-determined : (κs : Lfts 1) (a : _) (r₁ r₂ : _) (s₁ s₂ : _) → face-span.Learnt κs a r₁ s₁ → face-span.Learnt κs a r₂ s₂ → r₁ ≡ r₂
-face-span-determined κs a r₁ r₂ s₁ s₂ p q = coincide p q
+face-span-determined κs a r₁ r₂ s₁ s₂ p q = p ∙⁻¹ q
 
 pub face-determined : (κs : Lfts 1) (a : _) (r₁ r₂ : _) (s₁ s₂ : _) → face.Learnt κs a r₁ s₁ → face.Learnt κs a r₂ s₂ → now r₁ ≡ now r₂
-face-determined κs a r₁ r₂ s₁ s₂ p q = coincide p q
+face-determined κs a r₁ r₂ s₁ s₂ p q = p ∙⁻¹ q
 
 -- text
 pub read-number-determined : (κs : Lfts 1) (a : _) (r₁ r₂ : _) (s₁ s₂ : _) → read-number.Learnt κs a r₁ s₁ → read-number.Learnt κs a r₂ s₂ → r₁ ≡ r₂
-read-number-determined κs a r₁ r₂ s₁ s₂ p q = coincide p q
+read-number-determined κs a r₁ r₂ s₁ s₂ p q = p ∙⁻¹ q
 
 pub read-determined : (κs : Lfts 2) (a : _) (r₁ r₂ : _) (s₁ s₂ : _) → read.Learnt κs a r₁ s₁ → read.Learnt κs a r₂ s₂ → (r₁ ≡ r₂) × (now (s₁ .1 .0) ≡ now (s₂ .1 .0))
-read-determined κs a r₁ r₂ s₁ s₂ p q = (coincide (p .0) (q .0), coincide (p .1) (q .1))
+read-determined κs a r₁ r₂ s₁ s₂ p q = (p .0 ∙⁻¹ q .0, p .1 ∙⁻¹ q .1)
 
 pub write-determined : (κs : Lfts 2) (a : _) (r₁ r₂ : _) (s₁ s₂ : _) → write.Learnt κs a r₁ s₁ → write.Learnt κs a r₂ s₂ → (r₁ ≡ r₂) × (now (s₁ .1 .0) ≡ now (s₂ .1 .0))
-write-determined κs a r₁ r₂ s₁ s₂ p q = (coincide (p .0) (q .0), coincide (p .1) (q .1))
+write-determined κs a r₁ r₂ s₁ s₂ p q = (p .0 ∙⁻¹ q .0, p .1 ∙⁻¹ q .1)
 
 -- edges
 pub faces-on-determined : (κs : Lfts 1) (a : _) (r₁ r₂ : _) (s₁ s₂ : _) → faces-on.Learnt κs a r₁ s₁ → faces-on.Learnt κs a r₂ s₂ → r₁ ≡ r₂
-faces-on-determined κs a r₁ r₂ s₁ s₂ p q = coincide p q
+faces-on-determined κs a r₁ r₂ s₁ s₂ p q = p ∙⁻¹ q
 
 pub edge-table-determined : (κs : Lfts 2) (a : _) (r₁ r₂ : _) (s₁ s₂ : _) → edge-table.Learnt κs a r₁ s₁ → edge-table.Learnt κs a r₂ s₂ → (r₁ ≡ r₂) × (now (s₁ .1 .1 .0) ≡ now (s₂ .1 .1 .0))
-edge-table-determined κs a r₁ r₂ s₁ s₂ p q = (coincide (p .1) (q .1), coincide (p .0) (q .0))
+edge-table-determined κs a r₁ r₂ s₁ s₂ p q = (p .1 ∙⁻¹ q .1, p .0 ∙⁻¹ q .0)
 
 -- cut: the answer and each lent buffer
 pub classes-determined : (κs : Lfts 3) (a : _) (r₁ r₂ : _) (s₁ s₂ : _) → classes.Learnt κs a r₁ s₁ → classes.Learnt κs a r₂ s₂ → (r₁ ≡ r₂) × (now (s₁ .1 .1 .0) ≡ now (s₂ .1 .1 .0)) × (now (s₁ .1 .1 .1 .0) ≡ now (s₂ .1 .1 .1 .0))
-classes-determined κs a r₁ r₂ s₁ s₂ p q = (coincide (p .0) (q .0), coincide (p .1 .0) (q .1 .0), coincide (p .1 .1) (q .1 .1))
+classes-determined κs a r₁ r₂ s₁ s₂ p q = (p .0 ∙⁻¹ q .0, p .1 .0 ∙⁻¹ q .1 .0, p .1 .1 ∙⁻¹ q .1 .1)
 
 pub cut-determined : (κs : Lfts 4) (a : _) (r₁ r₂ : _) (s₁ s₂ : _) → cut.Learnt κs a r₁ s₁ → cut.Learnt κs a r₂ s₂ → (r₁ ≡ r₂) × (now (s₁ .1 .1 .0) ≡ now (s₂ .1 .1 .0)) × (now (s₁ .1 .1 .1 .0) ≡ now (s₂ .1 .1 .1 .0)) × (now (s₁ .1 .1 .1 .1 .0) ≡ now (s₂ .1 .1 .1 .1 .0))
 cut-determined κs a r₁ r₂ s₁ s₂ p q =
-    (coincide (p .0) (q .0), coincide (p .1 .0) (q .1 .0), coincide (p .1 .1 .0) (q .1 .1 .0), coincide (p .1 .1 .1) (q .1 .1 .1))
+    (p .0 ∙⁻¹ q .0, p .1 .0 ∙⁻¹ q .1 .0, p .1 .1 .0 ∙⁻¹ q .1 .1 .0, p .1 .1 .1 ∙⁻¹ q .1 .1 .1)

@@ -11,7 +11,7 @@ use native.Mathlib.Omega.{arith}
 use borrow.Author.Tests.{eqb-true, eqb-false, eq-eqb, ne-eqb}
 use lib.Dec.{eqb}
 use lib.ListN.{length, getD, length-map}
-use Rattle.order.proofs.Lists.{In}
+use Rattle.order.proofs.Lists.{In, at-in}
 use Rattle.groups.specs.Distinct.{isIn, distinctAfter, distinct, placeIn}
 
 abbrev pub Different : List ℕ → Type 0
@@ -168,11 +168,6 @@ place-holds x (y ∷ ys) i = go (eqb x y) refl i (place-holds x ys)
     go false e (inl p) ih = absurd (eqb-false x y e p)
     go false e (inr i) ih = ih i
 
-pub at-in : (xs : List ℕ) (i : ℕ) → i < length xs → In (getD xs i 0) xs
-at-in [] i h = absurd (omega arith)
-at-in (x ∷ xs) zero h = inl refl
-at-in (x ∷ xs) (suc i) h = inr (at-in xs i (omega arith))
-
 -- an element that stands further behind among the different ones was first used after the others
 after-order : {seen xs ds : List ℕ} → After seen xs ds → (i k : ℕ) → i < length xs → (In (getD xs i 0) seen → ⊥) → k < placeIn (getD xs i 0) ds → (j : ℕ) × (j < i) × (getD xs j 0 ≡ getD ds k 0)
 after-order none i k h n b = absurd (omega arith)
@@ -196,7 +191,7 @@ pub place-at : (xs : List ℕ) (i : ℕ) → Different xs → i < length xs → 
 place-at [] i d h = absurd (omega arith)
 place-at (x ∷ xs) zero d h = rw (eq-eqb x x refl)
 place-at (x ∷ xs) (suc i) d h =
-    let other : getD xs i 0 ≡ x → ⊥ = λ e. d .0 (rw e at (at-in xs i (omega arith))) in
+    let other : getD xs i 0 ≡ x → ⊥ = λ e. d .0 (rw e at (at-in 0 xs i (omega arith))) in
     rw (ne-eqb (getD xs i 0) x other) (ap suc (place-at xs i (d .1) (omega arith)))
 
 -- three different elements make a list of at least three

@@ -10,7 +10,7 @@ use lib.Dec.{ltb}
 use lib.IntN.{ℤ}
 use lib.ListN.{length}
 use Rattle.list.specs.Check.{Valid}
-use Rattle.order.proofs.Lists.{In}
+use Rattle.order.proofs.Lists.{In, at-in}
 use Rattle.edges.specs.Uses.{uses}
 use Rattle.groups.specs.Groups.{links, everyEdge}
 use Rattle.groups.specs.Distinct.{distinct, placeIn}
@@ -22,7 +22,7 @@ use Rattle.demands.specs.Labelling.{labelAt, Labelling, labelCount}
 use Rattle.demands.proofs.Equivalence.{joined-equal, joined-through, joined-within}
 use Rattle.demands.proofs.Walk.{Met}
 use Rattle.demands.proofs.Labels.{label-early, label-itself}
-use Rattle.demands.proofs.Distinct.{distinct-has, distinct-of, distinct-different, at-in, place-below, place-holds, onto-fit, onto-exact}
+use Rattle.demands.proofs.Distinct.{distinct-has, distinct-of, distinct-different, place-below, place-holds, onto-fit, onto-exact}
 use Rattle.demands.proofs.Crossing.{Crossing}
 use Rattle.demands.proofs.Links.{group-joined, joined-group}
 use Rattle.demands.proofs.Result.{groups, groups-length, cornered}
@@ -70,7 +70,7 @@ module _ (l : List ℤ) (n : ℕ) (v : Valid l n) where
     within : (x : ℕ) → Corner l x → fan-of (labelAt labels x) ≡ labelAt fans x
     unfolding fan-of
     within x h =
-        let i : In (labelAt labels x) labels = at-in labels x (omega (arith, labelling .one-each)) in
+        let i : In (labelAt labels x) labels = at-in 0 labels x (omega (arith, labelling .one-each)) in
         label-fan (placeIn (labelAt labels x) labels) x (omega (arith, place-below (labelAt labels x) labels i, labelling .one-each)) h (place-holds (labelAt labels x) labels i)
 
     every-fan : (g : ℕ) → In g (distinct fans) → (d : ℕ) × In d (distinct labels) × (fan-of d ≡ g)
@@ -78,7 +78,7 @@ module _ (l : List ℤ) (n : ℕ) (v : Valid l n) where
         let j : In g fans = distinct-of g fans i in
         let x = placeIn g fans in
         let h : Corner l x = omega (arith, place-below g fans j, groups-length everyEdge l n v) in
-        (labelAt labels x, distinct-has (labelAt labels x) labels (at-in labels x (omega (arith, labelling .one-each))), within x h ∙ place-holds g fans j)
+        (labelAt labels x, distinct-has (labelAt labels x) labels (at-in 0 labels x (omega (arith, labelling .one-each))), within x h ∙ place-holds g fans j)
 
     pub fewest : newVertices fans ≤ labelCount labels
     fewest = onto-fit fan-of (distinct labels) (distinct fans) (distinct-different fans) every-fan
@@ -88,8 +88,8 @@ module _ (l : List ℤ) (n : ℕ) (v : Valid l n) where
       label-fan x y h k,
       λ e.
           onto-exact fan-of (distinct labels) (distinct fans) (distinct-different fans) every-fan (omega arith) (labelAt labels x) (labelAt labels y)
-          (distinct-has (labelAt labels x) labels (at-in labels x (omega (arith, labelling .one-each))))
-          (distinct-has (labelAt labels y) labels (at-in labels y (omega (arith, labelling .one-each))))
+          (distinct-has (labelAt labels x) labels (at-in 0 labels x (omega (arith, labelling .one-each))))
+          (distinct-has (labelAt labels y) labels (at-in 0 labels y (omega (arith, labelling .one-each))))
           (within x h ∙ e ∙ sym (within y k)),
     )
 

@@ -1,6 +1,6 @@
 -- Labels are the smallest groups: two corners have the same label exactly when links join them, and the label is the group's earliest
 -- corner. The fold over the links is followed on labels as a function of the corner, and carried to lists once.
-use Prim.Native.Nat.{ℕ, zero, suc, _+_, _≤_, _<_, min, max}
+use Prim.Native.Nat.{ℕ, zero, suc, _≤_, _<_, min, max}
 use mathlib.Core.Path.{_≡_, refl, sym, _∙_, ap, fun-ext}
 use mathlib.Core.Bool.{Bool, true, false, cond}
 use mathlib.Core.List.{List, [], _∷_}
@@ -9,8 +9,9 @@ use native.Mathlib.Omega.{arith}
 use borrow.Author.Tests.{leb-true, leb-false, ltb-true, ltb-false, eqb-true, eqb-false}
 use lib.Dec.{leb, ltb, eqb}
 use lib.ListN.{length, getD, length-map, List·getD-map, List·getD-eq-default}
-use Rattle.order.proofs.Lists.{In}
-use Rattle.groups.specs.Groups.{Link, countFrom, upTo, replaced, merge, mergeAll, labelsOf}
+use Rattle.order.specs.Choose.{upFrom}
+use Rattle.order.proofs.Lists.{In, length-upFrom, getD-upFrom}
+use Rattle.groups.specs.Groups.{Link, upTo, replaced, merge, mergeAll, labelsOf}
 use Rattle.demands.specs.Joined.{Joined, link, same, back, chain}
 use Rattle.demands.specs.Labelling.{labelAt}
 use Rattle.demands.proofs.Equivalence.{joined-equal}
@@ -164,28 +165,19 @@ mergeAll-length : (labels : List ℕ) (ks : List Link) → length (mergeAll labe
 mergeAll-length labels [] = refl
 mergeAll-length labels (k ∷ ks) = mergeAll-length (merge labels k) ks ∙ simp length-map
 
-pub countFrom-length : (s n : ℕ) → length (countFrom s n) ≡ n
-countFrom-length s zero = refl
-countFrom-length s (suc n) = ap suc (countFrom-length (suc s) n)
-
-pub countFrom-at : (s n x : ℕ) → x < n → getD (countFrom s n) x 0 ≡ s + x
-countFrom-at s zero x h = absurd (omega arith)
-countFrom-at s (suc n) zero h = omega arith
-countFrom-at s (suc n) (suc x) h = countFrom-at (suc s) n x (omega arith) ∙ omega arith
-
-countFrom-past : (s n x : ℕ) → n ≤ x → getD (countFrom s n) x 0 ≡ 0
-countFrom-past s n x h = List·getD-eq-default (countFrom s n) 0 (rw countFrom-length h)
+upFrom-past : (s n x : ℕ) → n ≤ x → getD (upFrom s n) x 0 ≡ 0
+upFrom-past s n x h = List·getD-eq-default (upFrom s n) 0 (rw length-upFrom h)
 
 upTo-early : (c : ℕ) → Early (labelAt (upTo c))
 upTo-early c = record { early = λ x. first x (ltb x c) refl; itself = λ x. again x (ltb x c) refl }
   where
     first : (x : ℕ) (t : Bool) → ltb x c ≡ t → labelAt (upTo c) x ≤ x
-    first x true e = rw (countFrom-at 0 c x (ltb-true x c e)) (omega arith)
-    first x false e = rw (countFrom-past 0 c x (ltb-false x c e)) (omega arith)
+    first x true e = rw (getD-upFrom 0 c x 0 (ltb-true x c e)) (omega arith)
+    first x false e = rw (upFrom-past 0 c x (ltb-false x c e)) (omega arith)
 
     again : (x : ℕ) (t : Bool) → ltb x c ≡ t → labelAt (upTo c) (labelAt (upTo c) x) ≡ labelAt (upTo c) x
-    again x true e = ap (labelAt (upTo c)) (countFrom-at 0 c x (ltb-true x c e) ∙ omega arith)
-    again x false e = ap (labelAt (upTo c)) (countFrom-past 0 c x (ltb-false x c e)) ∙ zero-kept c ∙ sym (countFrom-past 0 c x (ltb-false x c e))
+    again x true e = ap (labelAt (upTo c)) (getD-upFrom 0 c x 0 (ltb-true x c e) ∙ omega arith)
+    again x false e = ap (labelAt (upTo c)) (upFrom-past 0 c x (ltb-false x c e)) ∙ zero-kept c ∙ sym (upFrom-past 0 c x (ltb-false x c e))
       where
         zero-kept : (c : ℕ) → labelAt (upTo c) 0 ≡ 0
         zero-kept zero = refl
@@ -194,7 +186,7 @@ upTo-early c = record { early = λ x. first x (ltb x c) refl; itself = λ x. aga
 module _ (c : ℕ) (ks : List Link) where
   pub labels-length : length (labelsOf c ks) ≡ c
   unfolding labelsOf
-  labels-length = mergeAll-length (upTo c) ks ∙ countFrom-length 0 c
+  labels-length = mergeAll-length (upTo c) ks ∙ length-upFrom 0 c
 
   labels-are : (x : ℕ) → labelAt (labelsOf c ks) x ≡ steps (labelAt (upTo c)) ks x
   unfolding labelsOf
@@ -217,5 +209,5 @@ module _ (c : ℕ) (ks : List Link) where
     where
       start : Joining c R (labelAt (upTo c))
       start x y x<c y<c e =
-          let equal : x ≡ y = omega (arith, e, countFrom-at 0 c x x<c, countFrom-at 0 c y y<c) in
+          let equal : x ≡ y = omega (arith, e, getD-upFrom 0 c x 0 x<c, getD-upFrom 0 c y 0 y<c) in
           same equal

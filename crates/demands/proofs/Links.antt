@@ -11,13 +11,13 @@ use lib.IntN.{ℤ}
 use lib.ListN.{length, getD}
 use Rattle.order.proofs.Lists.{In}
 use Rattle.mates.specs.Mates.{Mate, alone, other, many}
-use Rattle.edges.specs.Uses.{Use, uses, mateOf}
+use Rattle.edges.specs.Uses.{Use, uses, mateOf, noUse, useAt}
 use Rattle.edges.proofs.Uses.{uses-long, corner-at}
 use Rattle.edges.proofs.Mates.{Regular, mate-other, mate-regular}
-use Rattle.groups.specs.Groups.{Link, linksOf, noUse, linksAt, linksFrom, links, groupsOfUses}
+use Rattle.groups.specs.Groups.{Link, linksOf, linksAt, linksFrom, links, groupsOfUses}
 use Rattle.demands.specs.Joined.{Joined, link, Side, starts, stops}
 use Rattle.demands.specs.Renumbered.{Corner, vertexAt}
-use Rattle.demands.specs.Linked.{useAt, cornerBy, Across}
+use Rattle.demands.specs.Linked.{cornerBy, Across}
 use Rattle.demands.specs.Labelling.{labelAt}
 use Rattle.demands.proofs.Equivalence.{joined-equal}
 use Rattle.demands.proofs.Walk.{Met}

@@ -10,19 +10,14 @@ use native.Mathlib.Omega.{arith}
 use lib.IntN.{ℤ, pos}
 use lib.ListN.{length, getD, length-map, List·getD-map}
 use Rattle.list.specs.Faces.{isEnd, corners, num}
-use Rattle.order.proofs.Lists.{In}
+use Rattle.order.proofs.Lists.{In, at-in, getD-mapped}
 use Rattle.groups.specs.Distinct.{distinct, placeIn}
 use Rattle.renumber.specs.Renumber.{newNumbers, refilled, newListOf, newVertices, mapOf}
 use Rattle.demands.specs.Renumbered.{Corner, vertexAt, ends, mapped, FirstUse}
 use Rattle.demands.specs.Labelling.{labelAt}
 use Rattle.demands.specs.Classed.{Used}
 use Rattle.demands.specs.Counted.{Counted}
-use Rattle.demands.proofs.Distinct.{distinct-has, distinct-of, distinct-different, place-below, place-holds, place-at, at-in, distinct-order}
-
-pub getD-mapped : {A B : Type 0} (f : A → B) (xs : List A) (i : ℕ) (d : A) (b : B) → i < length xs → getD (map f xs) i b ≡ f (getD xs i d)
-getD-mapped f [] i d b h = absurd (omega arith)
-getD-mapped f (x ∷ xs) zero d b h = refl
-getD-mapped f (x ∷ xs) (suc i) d b h = getD-mapped f xs i d b (omega arith)
+use Rattle.demands.proofs.Distinct.{distinct-has, distinct-of, distinct-different, place-below, place-holds, place-at, distinct-order}
 
 -- how a list refilled with as many numbers as it has corners comes about
 data Filled : List ℤ → List ℕ → List ℤ → Type 0 where
@@ -87,7 +82,7 @@ module _ (labels : List ℕ) where
     number-is = getD-mapped (λ (x : ℕ). placeIn x (distinct labels)) labels x 0 0 h
 
     label-in : In (labelAt labels x) (distinct labels)
-    label-in = distinct-has (labelAt labels x) labels (at-in labels x h)
+    label-in = distinct-has (labelAt labels x) labels (at-in 0 labels x h)
 
     pub number-below : getD (newNumbers labels) x 0 < newVertices labels
     number-below = rw number-is (place-below (labelAt labels x) (distinct labels) label-in)
@@ -114,7 +109,7 @@ module _ (labels : List ℕ) where
   pub number-used : (k : ℕ) → k < newVertices labels → (x : ℕ) × (x < length labels) × (getD (newNumbers labels) x 0 ≡ k)
   number-used k h =
       let z = getD (distinct labels) k 0 in
-      let i : In z labels = distinct-of z labels (at-in (distinct labels) k h) in
+      let i : In z labels = distinct-of z labels (at-in 0 (distinct labels) k h) in
       let x = placeIn z labels in
       let b : x < length labels = place-below z labels i in
       (x, b, number-is x b ∙ ap (λ (w : ℕ). placeIn w (distinct labels)) (place-holds z labels i) ∙ place-at (distinct labels) k (distinct-different labels) h)
@@ -139,10 +134,6 @@ module _ (l : List ℤ) (labels : List ℕ) (same : length labels ≡ length (co
 
   pub new-vertex : (x : ℕ) → vertexAt (newListOf l labels) x ≡ getD (newNumbers labels) x 0
   new-vertex x = ap num (new-entry x)
-
-  pub map-length : length (mapOf l labels) ≡ newVertices labels
-  unfolding mapOf
-  map-length = length-map (distinct labels) (λ (z : ℕ). getD (corners l) (placeIn z labels) (pos 0))
 
   pub first-use : FirstUse (newListOf l labels)
   first-use x h v b =
@@ -169,7 +160,7 @@ module _ (l : List ℤ) (labels : List ℕ) (same : length labels ≡ length (co
     earliest = placeIn (labelAt labels x) labels
 
     x-in : In (labelAt labels x) labels
-    x-in = at-in labels x (omega arith)
+    x-in = at-in 0 labels x (omega arith)
 
     earliest-below : earliest < length labels
     earliest-below = place-below (labelAt labels x) labels x-in

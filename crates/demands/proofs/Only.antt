@@ -2,25 +2,22 @@
 -- joined corners. So a list with one fan round each vertex, numbered by first use, is its own cut.
 use Prim.Native.Nat.{ℕ, zero, suc, _<_}
 use mathlib.Core.Path.{_≡_, refl, sym, _∙_, ap}
-use mathlib.Core.Bool.{Bool, true, false, cond, false≢true}
+use mathlib.Core.Bool.{Bool, true, false, cond}
 use mathlib.Core.List.{List, [], _∷_}
 use mathlib.Core.Logic.{_↔_}
 use native.Mathlib.Omega.{arith}
 use borrow.Author.Tests.{ltb-true, ltb-false}
 use lib.Dec.{ltb}
-use lib.IntN.{ℤ, pos, negsuc}
+use lib.IntN.{ℤ, pos}
 use lib.ListN.{length, getD}
 use lib.Seq.{ext-getD}
-use Rattle.list.specs.Faces.{isEnd, end, corners}
+use Rattle.list.specs.Faces.{isEnd, corners}
+use Rattle.list.proofs.Rejoined.{end-only}
+use Rattle.renumber.proofs.Sizes.{map-length}
 use Rattle.renumber.specs.Renumber.{newListOf, newVertices, mapOf}
 use Rattle.demands.specs.Renumbered.{Corner, vertexAt, ends, mapped, FirstUse}
 use Rattle.demands.specs.Labelling.{labelAt}
-use Rattle.demands.proofs.Numbering.{new-ends, new-corners-length, new-entry, new-vertex, first-use, same-number, same-label, number-used, map-length, back-number}
-
-end-only : (x : ℤ) → isEnd x ≡ true → x ≡ end
-end-only (pos k) e = absurd (false≢true e)
-end-only (negsuc zero) e = refl
-end-only (negsuc (suc k)) e = absurd (false≢true e)
+use Rattle.demands.proofs.Numbering.{new-ends, new-corners-length, new-entry, new-vertex, first-use, same-number, same-label, number-used, back-number}
 
 -- a list is known by where -1 stands and by its corners
 same-list : (l k : List ℤ) → ends l ≡ ends k → corners l ≡ corners k → l ≡ k
@@ -109,7 +106,7 @@ module _ (l : List ℤ) (labels : List ℕ) (same : length labels ≡ length (co
   -- and so is the map that gives the list back
   pub map-only : (m : List ℤ) → length m ≡ newVertices labels → mapped m (newListOf l labels) ≡ l → mapped (mapOf l labels) (newListOf l labels) ≡ l → m ≡ mapOf l labels
   map-only m long back own =
-      ext-getD (pos 0) m (mapOf l labels) (long ∙ sym (map-length l labels same))
+      ext-getD (pos 0) m (mapOf l labels) (long ∙ sym (map-length l labels))
       (λ v h.
       let r = number-used labels v (omega arith) in
       let b : Corner l (r .0) = omega (arith, r .1) in

@@ -1,7 +1,7 @@
 -- Demand 1 for the calls above the check: each code exactly when its row of the table says, and what a refusal leaves.
-use Prim.Native.Nat.{ℕ, zero, suc, _*_, _≤_, _<_}
-use mathlib.Core.Path.{_≡_, refl, sym, _∙_, ap, subst, subst₂}
-use mathlib.Core.Bool.{Bool, true, false, cond, not, _&&_, true≢false, false≢true}
+use Prim.Native.Nat.{ℕ, _≤_, _<_}
+use mathlib.Core.Path.{_≡_, refl, sym, _∙_, subst, subst₂}
+use mathlib.Core.Bool.{Bool, true, false, not, _&&_, true≢false, false≢true}
 use mathlib.Core.List.{List}
 use mathlib.Core.Logic.{_↔_}
 use native.Mathlib.Omega.{arith}
@@ -12,13 +12,11 @@ use lib.IntN.{ℤ, pos, negsuc}
 use lib.ListN.{length}
 use Rattle.list.specs.Faces.{corners, num}
 use Rattle.list.specs.Check.{Valid, checkOf}
-use Rattle.list.specs.Codes.{Row}
-use Rattle.list.specs.declared.CheckAnswer.{CheckAnswer}
 use Rattle.list.proofs.Given.{code-row, row-code, accepted-exactly-when}
-use Rattle.edges.specs.Table.{edgeOf, edgeAnswer, isIndex, isPair}
+use Rattle.edges.specs.Table.{edgeOf, edgeAnswer, isPair}
 use Rattle.edges.specs.Uses.{facesOn}
 use Rattle.edges.specs.declared.EdgeAnswer.{EdgeAnswer}
-use Rattle.cut.specs.Cut.{wordsNeeded, cutOf, cutRefused, cutAccepted, classesAnswer, classesRefused, cutList, cutMap, cutWork, isCut, classesBytes, classesWork, isClassed}
+use Rattle.cut.specs.Cut.{wordsNeeded, cutOf, cutRefused, cutAccepted, classesAnswer, classesRefused, cutList, cutMap, cutWork, classesBytes, classesWork}
 use Rattle.cut.specs.declared.CutAnswer.{CutAnswer}
 use Rattle.cut.specs.declared.ClassesAnswer.{ClassesAnswer}
 use Rattle.demands.specs.Refused.{ListRow, Pair, EdgeRow, ClassesRow, CutRow}
@@ -140,20 +138,6 @@ module _ (l : List ℤ) (n : ℕ) where
         go (passed z v) (no p) (no q) (yes s) = subst Zeros (sym (cut-9 z (omega arith) (omega arith) s)) (λ e. (refl, refl, refl, refl, refl))
         go (passed z v) (no p) (no q) (no s) = subst Zeros (sym (cut-0 z (omega arith) (omega arith) (omega arith))) (λ e. absurd (e refl))
 
-    -- accepted: the cut's numbers, place 0
-    pub cut-accepted : cutOf l n a b w .code ≡ 0 → cutOf l n a b w ≡ cutAccepted l n
-    cut-accepted = go checked (decLt a (length l)) (decLt b (length (corners l))) (decLt w (wordsNeeded l))
-      where
-        Made : CutAnswer → Type 0
-        Made r = r .code ≡ 0 → r ≡ cutAccepted l n
-
-        go : Checked → Dec (a < length l) → Dec (b < length (corners l)) → Dec (w < wordsNeeded l) → Made (cutOf l n a b w)
-        go (refused d r) p q s = subst Made (sym (cut-refused d)) (λ e. absurd (d e))
-        go (passed z v) (yes p) q s = subst Made (sym (cut-6 z p)) (λ e. absurd (omega arith))
-        go (passed z v) (no p) (yes q) s = subst Made (sym (cut-7 z (omega arith) q)) (λ e. absurd (omega arith))
-        go (passed z v) (no p) (no q) (yes s) = subst Made (sym (cut-9 z (omega arith) (omega arith) s)) (λ e. absurd (omega arith))
-        go (passed z v) (no p) (no q) (no s) = subst Made (sym (cut-0 z (omega arith) (omega arith) (omega arith))) (λ e. refl)
-
   -- refused: every lent buffer is as it was
   pub cut-refused-keeps : (newList map : List ℤ) (work : List ℕ) → (cutOf l n (length newList) (length map) (length work) .code ≡ 0 → ⊥) → (cutList l n newList map work ≡ newList) × (cutMap l n newList map work ≡ map) × (cutWork l n newList map work ≡ work)
   unfolding cutList cutMap cutWork
@@ -250,7 +234,7 @@ module _ (l : List ℤ) (n : ℕ) where
     pub edge-exactly-when : (c p : ℕ) → ((edgeOf l n a b .code ≡ c) × (edgeOf l n a b .place ≡ p)) ↔ EdgeRow l n a b c p
     edge-exactly-when c p = ((λ e. subst₂ (EdgeRow l n a b) (e .0) (e .1) edge-gives), edge-given c p)
 
-    -- refused: no faces; accepted: the number of faces on the edge
+    -- refused: no faces
     pub edge-refused-zero : (edgeOf l n a b .code ≡ 0 → ⊥) → edgeOf l n a b .faces ≡ 0
     edge-refused-zero = go checked (isPair n a b) refl
       where
@@ -261,14 +245,3 @@ module _ (l : List ℤ) (n : ℕ) where
         go (refused d r) t e = subst Zero (sym (edge-refused d)) (λ k. refl)
         go (passed z v) true e = subst Zero (sym (edge-0 z e)) (λ k. absurd (k refl))
         go (passed z v) false e = subst Zero (sym (edge-10 z e)) (λ k. refl)
-
-    pub edge-accepted : edgeOf l n a b .code ≡ 0 → edgeOf l n a b .faces ≡ facesOn l (num a) (num b)
-    edge-accepted = go checked (isPair n a b) refl
-      where
-        Counts : EdgeAnswer → Type 0
-        Counts r = r .code ≡ 0 → r .faces ≡ facesOn l (num a) (num b)
-
-        go : Checked → (t : Bool) → isPair n a b ≡ t → Counts (edgeOf l n a b)
-        go (refused d r) t e = subst Counts (sym (edge-refused d)) (λ k. absurd (d k))
-        go (passed z v) true e = subst Counts (sym (edge-0 z e)) (λ k. refl)
-        go (passed z v) false e = subst Counts (sym (edge-10 z e)) (λ k. absurd (omega arith))

@@ -11,20 +11,21 @@ use lib.ListN.{length}
 use Rattle.list.specs.Faces.{corners}
 use Rattle.list.specs.Check.{Valid}
 use Rattle.order.proofs.Lists.{In, Rising}
-use Rattle.edges.specs.Uses.{Use, uses, onEdge, facesOn}
+use Rattle.edges.specs.Uses.{Use, uses, onEdge, facesOn, useAt}
 use Rattle.edges.proofs.Uses.{uses-long}
 use Rattle.edges.proofs.Mates.{sharing, sharing-faces, sharing-rises, in-sharing, shares, is-here}
 use Rattle.groups.specs.Groups.{links, groupsOfUses}
 use Rattle.renumber.specs.Renumber.{newListOf, newVertices}
+use Rattle.cut.proofs.Words.{corner-entry}
 use Rattle.demands.specs.Joined.{Joined, link, Side, starts, stops, opposite}
 use Rattle.demands.specs.Renumbered.{Corner, vertexAt}
-use Rattle.demands.specs.Linked.{useAt, cornerBy, Across, OneFan}
+use Rattle.demands.specs.Linked.{cornerBy, Across, OneFan}
 use Rattle.demands.proofs.Equivalence.{joined-equal, joined-through}
 use Rattle.demands.proofs.Walk.{Free, Met, three-free}
 use Rattle.demands.proofs.Labels.{labels-length}
 use Rattle.demands.proofs.Distinct.{equal-or-not, two-in}
 use Rattle.demands.proofs.Numbering.{new-ends, new-corners-length, new-vertex, same-number, same-label, Refines}
-use Rattle.demands.proofs.Corners.{next, Cornered, valid-cornered, corner-entry}
+use Rattle.demands.proofs.Corners.{next, Cornered, valid-cornered}
 use Rattle.demands.proofs.Crossing.{vertexBy, Ends, edge-vertices, same-ends, ends-same, ends-back, sides-ends, cornerBy-below, ends-sides, side-once, corner-once, three-faces, Crossing, crossing-meets}
 use Rattle.demands.proofs.Links.{crossing-below, group-joined, joined-group}
 use Rattle.demands.proofs.Shape.{same-next, new-valid}

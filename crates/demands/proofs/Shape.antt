@@ -16,10 +16,11 @@ use Rattle.list.specs.Faces.{isEnd, push, runs, corners, num, vertices}
 use Rattle.list.specs.Check.{ValidFace, Valid}
 use Rattle.list.proofs.Checking.{corners-fit}
 use Rattle.order.proofs.Lists.{map-append}
-use Rattle.edges.specs.Uses.{Use, usesToEnd, usesOfFace, usesFrom, uses}
+use Rattle.edges.specs.Uses.{Use, usesToEnd, usesOfFace, usesFrom, uses, noUse}
 use Rattle.edges.specs.Table.{nextWords}
-use Rattle.edges.proofs.Uses.{noUse, joined, corners-joined}
+use Rattle.edges.proofs.Uses.{joined, corners-joined}
 use Rattle.groups.specs.Distinct.{distinct}
+use Rattle.renumber.proofs.Sizes.{new-list-length}
 use Rattle.renumber.specs.Renumber.{newNumbers, newListOf, newVertices}
 use Rattle.demands.specs.Renumbered.{Corner, ends}
 use Rattle.demands.proofs.Distinct.{different-fit, distinct-different, distinct-of}
@@ -102,9 +103,6 @@ module _ (l : List ℤ) (n : ℕ) (v : Valid l n) (labels : List ℕ) (same : le
   abbrev new : List ℤ
   new = newListOf l labels
 
-  new-length : length new ≡ length l
-  new-length = sym (length-map new isEnd) ∙ ap length (new-ends l labels same) ∙ length-map l isEnd
-
   new-lengths : lengths (runs new) ≡ lengths (runs l)
   new-lengths = same-lengths new l (new-ends l labels same)
 
@@ -148,7 +146,7 @@ module _ (l : List ℤ) (n : ℕ) (v : Valid l n) (labels : List ℕ) (same : le
   -- the list numbered afresh is valid
   pub new-valid : Refines l labels same → Valid new (newVertices labels)
   new-valid refines = record {
-    few-entries = rw new-length (v .few-entries);
+    few-entries = rw (new-list-length l labels) (v .few-entries);
     few-vertices = omega (arith, new-few, corners-fit l, v .few-entries);
     each-face = λ k h. face-valid k h refines;
   }

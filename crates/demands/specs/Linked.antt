@@ -1,6 +1,5 @@
 -- Corners that are linked across an edge (document 01, "Edges, fans and classes", 2 and 4).
 --
---   useAt l e            the use that starts at corner e of the list l
 --   cornerBy l e s       of the use that starts at corner e: the corner by whose side s it runs
 --   Across l x s y t     the corners x and y lie on one vertex, and the edge by x's side s, which is that by y's side t, has two faces:
 --                        those of x and y
@@ -11,14 +10,9 @@ use mathlib.Core.Path.{_≡_}
 use mathlib.Core.List.{List}
 use mathlib.Core.Bool.{true}
 use lib.IntN.{ℤ}
-use lib.ListN.{getD}
-use Rattle.edges.specs.Uses.{Use, uses, onEdge, facesOn}
-use Rattle.groups.specs.Groups.{noUse}
+use Rattle.edges.specs.Uses.{onEdge, facesOn, useAt}
 use Rattle.demands.specs.Joined.{Joined, Side, starts, stops}
 use Rattle.demands.specs.Renumbered.{Corner, vertexAt}
-
-abbrev pub useAt : List ℤ → ℕ → Use
-useAt l e = getD (uses l) e noUse
 
 abbrev pub cornerBy : List ℤ → ℕ → Side → ℕ
 cornerBy l e starts = e

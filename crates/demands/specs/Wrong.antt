@@ -8,17 +8,17 @@
 --   byLabels f         the cut that groups the corners by the labels f gives
 --   refusesAll, fixedAnswer, writesNothing, plainCopy, vertexPerCorner, firstEdgeOnly, madeUpCounts, tearsSingular,
 --   copiesAtSingular, oppositeOnly, oneEndpoint, firstTwoOfThree        the twelve
-use Prim.Native.Nat.{ℕ, zero, suc, _+_, _*_}
+use Prim.Native.Nat.{ℕ, _+_}
 use mathlib.Core.Path.{_≡_}
 use mathlib.Core.List.{List, [], _∷_, _++_, map}
-use mathlib.Core.Bool.{Bool, true, false, cond, not, _||_}
-use lib.Dec.{eqb, ltb}
+use mathlib.Core.Bool.{Bool, false, cond, not, _||_}
+use lib.Dec.{eqb}
 use lib.IntN.{ℤ, pos}
 use lib.ListN.{length, getD, take}
 use Rattle.list.specs.Check.{checkOf}
 use Rattle.mates.specs.Mates.{Mate, alone, other, many}
-use Rattle.edges.specs.Uses.{Use, uses, usesOn, cornersOf, isSingular, singularEdges, mateOf}
-use Rattle.groups.specs.Groups.{Link, linksOf, links, everyEdge, noUse, upTo, labelsOf, groupLabels}
+use Rattle.edges.specs.Uses.{Use, uses, usesOn, cornersOf, isSingular, singularEdges, mateOf, noUse}
+use Rattle.groups.specs.Groups.{Link, linksOf, links, everyEdge, upTo, labelsOf, groupLabels}
 use Rattle.renumber.specs.Renumber.{newListOf, newVertices, mapOf}
 use Rattle.fans.specs.Classes.{endsEdge, singularVertices}
 use Rattle.renumber.specs.Written.{over}

@@ -18,10 +18,10 @@ use Rattle.order.proofs.Lists.{all-in, choose-same, choose-map, upFrom-in, from
 use Rattle.order.proofs.Parts.{length-part, getD-part, part-add}
 use Rattle.mates.specs.Mates.{mateAmong, mateWord, startsMany}
 use Rattle.mates.specs.Matching.{sameKey, wordBy, startsBy, RightAt}
-use Rattle.edges.specs.Uses.{Use, uses, hi, onEdge, startsSingular, singularEdges}
+use Rattle.edges.specs.Uses.{Use, uses, hi, onEdge, startsSingular, singularEdges, noUse, useAt}
 use Rattle.edges.specs.Table.{nextWords, vertexWords, mateWords, tableOf}
 use Rattle.edges.specs.Words.{keyOf, cornerOf, cornerWords, TakenApart}
-use Rattle.edges.proofs.Uses.{noUse, useAt, corner-at}
+use Rattle.edges.proofs.Uses.{corner-at}
 use Rattle.edges.proofs.Faces.{on-edge, edge-on, use-proper}
 use Rattle.edges.proofs.Mates.{sharing, sharing-is, mate-is, word}
 use Rattle.edges.proofs.Table.{mates-long, word-at}

@@ -5,6 +5,7 @@ use Prim.Native.Nat.{ℕ, suc, _+_, _≤_, _<_, min, max}
 use mathlib.Core.Path.{_≡_, refl, sym, _∙_, ap}
 use mathlib.Core.Bool.{Bool, true, false, cond, _&&_, false≢true}
 use mathlib.Core.List.{List, [], _∷_}
+use mathlib.Core.Logic.{_⊎_, inl, inr}
 use native.Mathlib.Omega.{arith}
 use borrow.Author.Tests.{eq-eqb, eqb-true, eqb-false, ltb-true, ltb-false}
 use lib.Dec.{eqb, ltb}
@@ -13,9 +14,9 @@ use lib.ListN.{length, getD, length-append, length-map, List·getD-map}
 use Rattle.list.specs.Faces.{runs, num, vertices}
 use Rattle.list.specs.Check.{ValidFace, Valid}
 use Rattle.order.specs.Choose.{choose, count, All}
-use Rattle.edges.specs.Uses.{Use, usesToEnd, usesOfFace, usesFrom, uses, nextIn, lo, hi, isEdge, onEdge, usesOn, facesOn}
+use Rattle.edges.specs.Uses.{Use, usesToEnd, usesOfFace, usesFrom, uses, nextIn, lo, hi, isEdge, onEdge, usesOn, facesOn, noUse, useAt}
 use Rattle.order.proofs.Lists.{all-of, all-at, all-append, choose-append, choose-one}
-use Rattle.edges.proofs.Uses.{noUse, useAt, useIn, use-in, uses-face-long, next-inside}
+use Rattle.edges.proofs.Uses.{useIn, use-in, uses-face-long, next-inside}
 
 abbrev pub hasEdge : ℕ → ℕ → List ℤ → Bool
 hasEdge a b r = ltb 0 (length (usesOn (usesOfFace 0 (vertices r)) a b))
@@ -45,13 +46,18 @@ turned : (a b c d : ℕ) → min a b ≡ min c d → max a b ≡ max c d → (a 
 turned a b c d p q h = (omega arith, omega arith)
 
 -- in a face of at least three corners no two places follow each other both ways
-next-once : (m i j : ℕ) → 3 ≤ m → i < j → nextIn m i ≡ j → nextIn m j ≡ i → ⊥
-next-once m i j h k = go (eqb (suc i) m) (eqb (suc j) m) refl
+pub next-twice : (m i : ℕ) → 3 ≤ m → i ≡ nextIn m (nextIn m i) → ⊥
+next-twice m i h = go (eqb (suc i) m) refl
   where
-    go : (a b : Bool) → eqb (suc j) m ≡ b → cond a 0 (suc i) ≡ j → cond b 0 (suc j) ≡ i → ⊥
-    go true b e p q = omega arith
-    go false true e p q = omega (arith, eqb-true (suc j) m e)
-    go false false e p q = omega arith
+    again : (j : ℕ) → ((j ≡ 0) × (suc i ≡ m)) ⊎ ((j ≡ suc i) × (suc i ≡ m → ⊥)) → (b : Bool) → eqb (suc j) m ≡ b → i ≡ cond b 0 (suc j) → ⊥
+    again j (inl p) true q e = omega (arith, eqb-true (suc j) m q)
+    again j (inl p) false q e = omega arith
+    again j (inr p) true q e = omega (arith, eqb-true (suc j) m q)
+    again j (inr p) false q e = omega arith
+
+    go : (a : Bool) → eqb (suc i) m ≡ a → i ≡ nextIn m (cond a 0 (suc i)) → ⊥
+    go true p = again 0 (inl (refl, eqb-true (suc i) m p)) (eqb 1 m) refl
+    go false p = again (suc i) (inr (refl, eqb-false (suc i) m p)) (eqb (suc (suc i)) m) refl
 
 module _ (n : ℕ) (r : List ℤ) (v : ValidFace n r) where
   abbrev vs : List ℕ
@@ -74,7 +80,7 @@ module _ (n : ℕ) (r : List ℤ) (v : ValidFace n r) where
   pub face-long : 3 ≤ length vs
   face-long = rw (length-map r num) (v .long)
 
-  same-place : (i j : ℕ) → i < length vs → j < length vs → getD vs i 0 ≡ getD vs j 0 → i ≡ j
+  pub same-place : (i j : ℕ) → i < length vs → j < length vs → getD vs i 0 ≡ getD vs j 0 → i ≡ j
   same-place i j h k e = go (eqb i j) refl (ltb i j) refl
     where
       go : (b : Bool) → eqb i j ≡ b → (t : Bool) → ltb i j ≡ t → i ≡ j
@@ -89,9 +95,9 @@ module _ (n : ℕ) (r : List ℤ) (v : ValidFace n r) where
       let e = on-edge a b (useIn c vs i) p in
       let f = on-edge a b (useIn c vs j) q in
       let t = turned (getD vs i 0) (getD vs i′ 0) (getD vs j 0) (getD vs j′ 0) (e .0 ∙ sym (f .0)) (e .1 ∙ sym (f .1)) (vertex-once i j h k) in
-      next-once (length vs) i j face-long h
-      (same-place i′ j (next-inside (length vs) i (omega arith)) k (t .1))
-      (sym (same-place i j′ (omega arith) (next-inside (length vs) j k) (t .0)))
+      next-twice (length vs) i face-long
+      (same-place i j′ (omega arith) (next-inside (length vs) j k) (t .0) ∙
+      ap (nextIn (length vs)) (sym (same-place i′ j (next-inside (length vs) i (omega arith)) k (t .1))))
 
   -- a face uses an edge at most once
   pub face-uses-once : (c a b : ℕ) → length (usesOn (usesOfFace c vs) a b) ≤ 1

@@ -16,9 +16,9 @@ use Rattle.list.specs.Faces.{num, vertices}
 use Rattle.list.proofs.Repeats.{vertex-of, vertices-long}
 use Rattle.order.proofs.Parts.{part-before}
 use Rattle.order.proofs.Filling.{Filling, filling-none, filling-turn}
-use Rattle.edges.specs.Uses.{Use, usesOfFace, nextIn}
+use Rattle.edges.specs.Uses.{Use, usesOfFace, nextIn, noUse}
 use Rattle.edges.specs.Words.{pairKey, keyOf, cornerWord, cornerOf, cornerWords}
-use Rattle.edges.proofs.Uses.{noUse, use-in, uses-face-long}
+use Rattle.edges.proofs.Uses.{use-in, uses-face-long}
 
 -- a word written before the part, into both lists
 filling-aside : (ys : List ℕ) (to : ℕ) (w₀ w : List ℕ) (i j v : ℕ) → j < to → to ≤ length w₀ → Filling ys to w₀ w i → Filling ys to (set w₀ j v) (set w j v) i

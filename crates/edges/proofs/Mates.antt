@@ -18,8 +18,8 @@ use lib.ListN.{length, length-map}
 use Rattle.order.specs.Choose.{choose, All, upFrom}
 use Rattle.order.proofs.Lists.{In, all-in, in-choose, in-chosen, choose-map, in-upFrom, upFrom-in, Rising, rising-upFrom, rising-choose, from-table}
 use Rattle.mates.specs.Mates.{Mate, alone, other, many, mateAmong, mateWord}
-use Rattle.edges.specs.Uses.{Use, uses, onEdge, usesOn, facesOn, cornersOf, mateOf}
-use Rattle.edges.proofs.Uses.{noUse, useAt, corner-at}
+use Rattle.edges.specs.Uses.{Use, uses, onEdge, usesOn, facesOn, cornersOf, mateOf, noUse, useAt}
+use Rattle.edges.proofs.Uses.{corner-at}
 use Rattle.edges.proofs.Faces.{on-edge, edge-on}
 
 abbrev pub sharing : List ℤ → ℕ → ℕ → List ℕ

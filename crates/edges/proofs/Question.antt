@@ -20,10 +20,10 @@ use Rattle.list.specs.declared.Cursor.{Cursor}
 use Rattle.list.proofs.Runs.{Stepped}
 use Rattle.list.proofs.Checking.{corners-fit}
 use Rattle.order.specs.Choose.{choose}
-use Rattle.edges.specs.Uses.{Use, usesOfFace, usesFrom, uses, isEdge, onEdge, usesOn, facesOn}
+use Rattle.edges.specs.Uses.{Use, usesOfFace, usesFrom, uses, isEdge, onEdge, usesOn, facesOn, noUse}
 use Rattle.edges.specs.Table.{isIndex, isPair, edgeAnswer, edgeOf}
 use Rattle.order.proofs.Lists.{choose-append, choose-few}
-use Rattle.edges.proofs.Uses.{noUse, uses-long}
+use Rattle.edges.proofs.Uses.{uses-long}
 use Rattle.edges.proofs.Faces.{is-edge, edge-is, face-anywhere}
 
 -- two tests that hold together are one

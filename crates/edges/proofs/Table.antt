@@ -8,9 +8,9 @@ use lib.IntN.{ℤ}
 use lib.ListN.{length, getD, replicate, length-replicate, getD-replicate, length-append, length-map, List·getD-append, List·getD-map}
 use lib.Seq.{getD-append-add}
 use Rattle.mates.specs.Mates.{other, mateWord}
-use Rattle.edges.specs.Uses.{Use, uses, mateOf}
+use Rattle.edges.specs.Uses.{Use, uses, mateOf, noUse, useAt}
 use Rattle.edges.specs.Table.{nextWords, vertexWords, mateWords, tableOf}
-use Rattle.edges.proofs.Uses.{noUse, useAt, corner-at}
+use Rattle.edges.proofs.Uses.{corner-at}
 use Rattle.edges.proofs.Mates.{mate, facesAt, word, mate-alone, mate-other, mate-many, mate-regular, word-alone, word-other, word-many}
 
 -- inside a list it doesn't matter what stands past its end

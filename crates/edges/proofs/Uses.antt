@@ -17,15 +17,9 @@ use lib.ListN.{length, getD, length-append, length-map, List·getD-append, List�
 use lib.Seq.{getD-append-add}
 use Rattle.list.specs.Faces.{isEnd, push, runs, corners, num, vertices}
 use Rattle.order.specs.Choose.{upFrom}
-use Rattle.edges.specs.Uses.{Use, usesToEnd, usesOfFace, usesFrom, uses, nextIn, cornersOf}
+use Rattle.edges.specs.Uses.{Use, usesToEnd, usesOfFace, usesFrom, uses, nextIn, cornersOf, noUse, useAt}
 use Rattle.edges.specs.Table.{vertexWords}
 use Rattle.order.proofs.Lists.{upFrom-add, getD-upFrom, map-append}
-
-abbrev pub noUse : Use
-noUse = record { corner = 0; next = 0; from = 0; to = 0 }
-
-abbrev pub useAt : List ℤ → ℕ → Use
-useAt l e = getD (uses l) e noUse
 
 -- the runs put behind one another
 abbrev pub joined : List (List ℤ) → List ℤ

@@ -3,6 +3,8 @@
 --   Use                one use of an edge by a face: the corner where it starts, the next corner of the face (after the last
 --                      the first), and the vertices of the two. It runs from the one to the other
 --   uses l             the uses of the list l: one for each corner, in the order of the corners
+--   noUse              what stands where there is no use
+--   useAt l e          the use that starts at corner e of the list l
 --   nextIn m i         the place that follows place i in a face of m corners: after the last the first
 --   lo u, hi u         the edge of the use u, an unordered pair: its lower and its higher vertex
 --   isEdge v w a b     the edge between v and w is the one between a and b
@@ -18,7 +20,7 @@ use mathlib.Core.List.{List, [], _∷_, _++_, map}
 use mathlib.Core.Bool.{Bool, cond, _&&_}
 use lib.Dec.{leb, eqb}
 use lib.IntN.{ℤ}
-use lib.ListN.{length}
+use lib.ListN.{length, getD}
 use Rattle.list.specs.Faces.{runs, vertices}
 use Rattle.order.specs.Choose.{choose, count}
 use Rattle.mates.specs.Mates.{Mate, mateAmong, startsMany}
@@ -45,6 +47,12 @@ usesFrom c (r ∷ rs) = usesOfFace c (vertices r) ++ usesFrom (c + length r) rs
 
 abbrev pub uses : List ℤ → List Use
 uses l = usesFrom 0 (runs l)
+
+abbrev pub noUse : Use
+noUse = record { corner = 0; next = 0; from = 0; to = 0 }
+
+abbrev pub useAt : List ℤ → ℕ → Use
+useAt l e = getD (uses l) e noUse
 
 abbrev pub nextIn : ℕ → ℕ → ℕ
 nextIn m i = cond (eqb (suc i) m) 0 (suc i)

@@ -2,46 +2,40 @@
 use Prim.Native.Nat.{ℕ, zero, suc, _+_, _*_, _≤_, _<_}
 use mathlib.Core.Path.{_≡_, refl, sym, _∙_, ap}
 use mathlib.Core.Bool.{Bool, true, false, cond, _&&_, true≢false}
-use mathlib.Core.List.{List, [], _∷_, map}
-use native.Mathlib.Nat.{add-zero, add-suc, suc-add}
+use mathlib.Core.List.{List, [], _∷_}
+use native.Mathlib.Nat.{zero-add, add-zero, add-suc, suc-add}
 use native.Mathlib.Omega.{arith}
 use borrow.Author.Tests.{eqb-true, eqb-false, eq-eqb, ne-eqb, leb-true, le-leb, lt-ltb}
 use lib.Dec.{leb, ltb, eqb}
 use lib.IntN.{ℤ}
 use lib.ListN.{length, getD, take, drop, length-map, drop-of-length-le}
 use lib.Seq.{drop-cons, ext-getD}
-use Rattle.order.specs.Choose.{All, choose, count}
-use Rattle.order.proofs.Lists.{choose-none, choose-same}
+use Rattle.order.specs.Choose.{count, upFrom}
+use Rattle.order.proofs.Lists.{all-in, choose-some, choose-none, choose-same, getD-mapped, length-upFrom, getD-upFrom, in-upFrom, upFrom-in}
 use Rattle.mates.specs.Mates.{mateWord}
-use Rattle.edges.specs.Uses.{Use, uses, isBoundary, isSingular}
+use Rattle.edges.specs.Uses.{Use, uses, isBoundary, isSingular, useAt, noUse}
 use Rattle.edges.specs.Table.{tableOf}
-use Rattle.edges.proofs.Uses.{useAt, next-below, to-next}
+use Rattle.edges.proofs.Uses.{next-below, to-next}
 use Rattle.edges.proofs.Mates.{word, facesAt, mate-alone, mate-many, word-alone, word-many}
 use Rattle.edges.proofs.Table.{table-next, table-vertex, table-mate}
-use Rattle.groups.specs.Groups.{noUse, countFrom, upTo, fanLabels}
+use Rattle.groups.specs.Groups.{upTo, fanLabels}
 use Rattle.groups.specs.Distinct.{distinct}
 use Rattle.fans.specs.Classes.{touches, endsEdgeOf, endsEdge, hasFace, labelsAt, fansAt, classOf, classesOf}
 use Rattle.groups.specs.Forest.{at, Forest, Grouped}
 use Rattle.fans.specs.Marks.{isRootOn, rootsOn, fanMark, touchesAt, marksEnd, boundaryWord, singularWord, finished, finalMark}
-use Rattle.groups.proofs.Counting.{word-kept, map-at, length-countFrom, at-countFrom}
+use Rattle.groups.proofs.Counting.{word-kept}
 use Rattle.groups.proofs.Roots.{forest-earliest, root-by-parent, rootsIn, pick, distinct-roots}
 use Rattle.groups.proofs.TableLinks.{fan-vertex}
 
-all-countFrom : (P : ℕ → Type 0) (n s : ℕ) → ((i : ℕ) → s ≤ i → i < s + n → P i) → All P (countFrom s n)
-all-countFrom P zero s f = tt
-all-countFrom P (suc n) s f = (f s (omega arith) (omega arith), all-countFrom P n (suc s) (λ i a b. f i (omega arith) (omega arith)))
+-- the classes stand in the order of the vertices
+module _ (l : List ℤ) (n : ℕ) where
+  pub classes-length : length (classesOf l n) ≡ n
+  unfolding classesOf
+  classes-length = length-map (upTo n) (classOf l) ∙ length-upFrom 0 n
 
-count-some : (p : ℕ → Bool) (n s i : ℕ) → s ≤ i → i < s + n → p i ≡ true → 1 ≤ count p (countFrom s n)
-count-some p zero s i a b q = absurd (omega arith)
-count-some p (suc n) s i a b q = go (p s) refl (count-some p n (suc s) i)
-  where
-    go : (t : Bool) → p s ≡ t → (suc s ≤ i → i < suc s + n → p i ≡ true → 1 ≤ count p (countFrom (suc s) n)) → 1 ≤ length (cond t (s ∷ choose p (countFrom (suc s) n)) (choose p (countFrom (suc s) n)))
-    go true d ih = omega arith
-    go false d ih = ih (later (eqb s i) refl) (omega arith) q
-      where
-        later : (t : Bool) → eqb s i ≡ t → suc s ≤ i
-        later true o = absurd (true≢false (sym q ∙ ap p (sym (eqb-true s i o)) ∙ d))
-        later false o = omega (arith, eqb-false s i o)
+  pub classes-at : (v : ℕ) → v < n → getD (classesOf l n) v 0 ≡ classOf l v
+  unfolding classesOf
+  classes-at v h = getD-mapped (classOf l) (upTo n) v 0 0 (rw length-upFrom h) ∙ ap (classOf l) (getD-upFrom 0 n v 0 h ∙ zero-add v)
 
 labels-pick : (v : ℕ) (q : ℕ → Bool) (us : List Use) (labels : List ℕ) (e : ℕ) → length us ≡ length labels → ((i : ℕ) → i < length us → q (e + i) ≡ eqb v (getD us i noUse .from)) → labelsAt v us labels ≡ pick q e labels
 labels-pick v q [] [] e n f = refl
@@ -113,8 +107,8 @@ module _ (l : List ℤ) (w : List ℕ) (front : take (3 * length (uses l)) w ≡
   roots-are : (v : ℕ) → rootsOn w c v 0 c ≡ length (rootsIn (on v) (fanLabels l) 0 c)
   roots-are v =
       ap length
-      (choose-same (isRootOn w c v) (λ (i : ℕ). eqb (at (fanLabels l) i) i && on v i) (countFrom 0 c)
-      (all-countFrom (λ (i : ℕ). isRootOn w c v i ≡ (eqb (at (fanLabels l) i) i && on v i)) c 0 (λ i a b. rw (root-is i (omega arith), vertex-word i (omega arith)))))
+      (choose-same (isRootOn w c v) (λ (i : ℕ). eqb (at (fanLabels l) i) i && on v i) (upFrom 0 c)
+      (all-in (λ (i : ℕ). isRootOn w c v i ≡ (eqb (at (fanLabels l) i) i && on v i)) (upFrom 0 c) (λ i a. let h : i < c = omega (arith, upFrom-in 0 c i a) in rw (root-is i h, vertex-word i h))))
 
   fans-are : (v : ℕ) → fansAt l v ≡ rootsOn w c v 0 c
   unfolding fansAt
@@ -168,14 +162,14 @@ module _ (l : List ℤ) (w : List ℕ) (front : take (3 * length (uses l)) w ≡
       let low : r ≤ i = E .below i (omega (arith, fans-long)) in
       let top : eqb (at (fanLabels l) r) r ≡ true = eq-eqb (at (fanLabels l) r) r (E .fixed i (omega (arith, fans-long))) in
       let here : eqb v (useAt l r .from) ≡ true = eq-eqb v (useAt l r .from) (o ∙ sym (fan-vertex l i (omega (arith, fans-long)))) in
-      count-some (isRootOn w c v) c 0 r (omega arith) (omega arith)
+      choose-some (isRootOn w c v) r (upFrom 0 c) (in-upFrom 0 c r (omega arith) (omega arith))
       (rw (root-is r (omega arith), vertex-word r (omega arith), top, here))
 
   no-roots : (v : ℕ) → ((i : ℕ) → i < c → on v i ≡ false) → rootsOn w c v 0 c ≡ 0
   no-roots v f =
       ap length
-      (choose-none (isRootOn w c v) (countFrom 0 c)
-      (all-countFrom (λ (i : ℕ). isRootOn w c v i ≡ false) c 0 (λ i a b. rw (vertex-word i (omega arith), f i (omega arith)) (and-false (leb i (at w (3 * c + i)))))))
+      (choose-none (isRootOn w c v) (upFrom 0 c)
+      (all-in (λ (i : ℕ). isRootOn w c v i ≡ false) (upFrom 0 c) (λ i a. let h : i < c = omega (arith, upFrom-in 0 c i a) in rw (vertex-word i h, f i h) (and-false (leb i (at w (3 * c + i)))))))
 
   class-found : (v : ℕ) → finalMark w c v (fanMark (rootsOn w c v 0 c)) ≡ classOf l v
   unfolding classOf
@@ -195,13 +189,8 @@ module _ (l : List ℤ) (w : List ℕ) (front : take (3 * length (uses l)) w ≡
           rw (roots, none-ends (singularWord c) v none c 0 (omega arith), none-ends boundaryWord v none c 0 (omega arith))
 
   pub classes-found : (n : ℕ) (xs : List ℕ) → length xs ≡ n → ((v : ℕ) → v < n → at xs v ≡ finalMark w c v (fanMark (rootsOn w c v 0 c))) → xs ≡ classesOf l n
-  unfolding classesOf
   classes-found n xs h f =
-      let row : length (upTo n) ≡ n = length-countFrom 0 n in
-      ext-getD 0 xs (map (classOf l) (upTo n)) (h ∙ sym row ∙ sym (length-map (upTo n) (classOf l)))
-      (λ v i.
-      let z : at (upTo n) v ≡ v = at-countFrom 0 n v (omega arith) ∙ omega arith in
-      f v (omega arith) ∙ class-found v ∙ sym (map-at (classOf l) (upTo n) v (omega arith) ∙ ap (classOf l) z))
+      ext-getD 0 xs (classesOf l n) (h ∙ sym (classes-length l n)) (λ v i. f v (omega arith) ∙ class-found v ∙ sym (classes-at l n v (omega arith)))
 
 pub grouped-classes : (l : List ℤ) (c : ℕ) (w : List ℕ) → Grouped l c w → (n : ℕ) (xs : List ℕ) → length xs ≡ n → ((v : ℕ) → v < n → at xs v ≡ finalMark w c v (fanMark (rootsOn w c v 0 c))) → xs ≡ classesOf l n
 grouped-classes l c w G n xs h f =

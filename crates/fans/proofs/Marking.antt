@@ -21,6 +21,14 @@ at-set xs a x v h = go (eqb v a) refl
     go true e = rw (eqb-true v a e) (getD-set-same xs a x 0 h)
     go false e = getD-set-other xs a v x 0 (eqb-false v a e)
 
+-- both ends of the edge at corner e have a mark
+module _ (w : List ℕ) (c n : ℕ) (W : VertexWords w c n) (xs : List ℕ) (size : length xs ≡ n) (e : ℕ) (h : e < c) where
+  pub from-inside : at w (c + e) < length xs
+  from-inside = omega (arith, W .inside e h)
+
+  pub to-inside : at w (c + at w e) < length xs
+  to-inside = omega (arith, W .inside (at w e) (W .table .nexts e h))
+
 fan-first : (k : ℕ) → fanMark k ≡ 0 → fanMark (suc k) ≡ 1
 fan-first zero e = refl
 fan-first (suc zero) e = absurd (omega arith)
@@ -56,7 +64,7 @@ pub record FanTurn (w : List ℕ) (c n : ℕ) (xs : List ℕ) (e : ℕ) : Type 0
   pub first : e ≤ at w (3 * c + e) → at xs (at w (c + e)) ≡ 0 → FanLoop w c n (set xs (at w (c + e)) 1) (e + 1)
   pub again : e ≤ at w (3 * c + e) → (at xs (at w (c + e)) ≡ 0 → ⊥) → FanLoop w c n (set xs (at w (c + e)) 4) (e + 1)
 
-module _ (w : List ℕ) (c n : ℕ) (inside : (e : ℕ) → e < c → at w (c + e) < n) (xs : List ℕ) (e : ℕ) (h : e < c) (L : FanLoop w c n xs e) where
+module _ (w : List ℕ) (c n : ℕ) (W : VertexWords w c n) (xs : List ℕ) (e : ℕ) (h : e < c) (L : FanLoop w c n xs e) where
   fan-child : at w (3 * c + e) < e → FanLoop w c n xs (e + 1)
   fan-child p = record { size = L .size; seen = λ v i. same v (L .seen v i) }
     where
@@ -68,7 +76,7 @@ module _ (w : List ℕ) (c n : ℕ) (inside : (e : ℕ) → e < c → at w (c + 
   fan-root x p f = record { size = length-set xs (at w (c + e)) x ∙ L .size; seen = λ v i. go v (L .seen v i) (eqb v (at w (c + e))) refl }
     where
       here : at w (c + e) < length xs
-      here = omega (arith, inside e h, L .size)
+      here = from-inside w c n W xs (L .size) e h
 
       root : (v : ℕ) (t : Bool) → eqb v (at w (c + e)) ≡ t → isRootOn w c v e ≡ t
       root v t q = rw (le-leb e (at w (3 * c + e)) p) q
@@ -171,12 +179,6 @@ pub record EndTurn (w : List ℕ) (c : ℕ) (xs₀ xs : List ℕ) (e : ℕ) : Ty
   pub regular : (at w (2 * c + e) ≡ e → ⊥) → (at w (2 * c + e) ≡ c → ⊥) → EndLoop w c xs₀ xs (e + 1)
 
 module _ (w : List ℕ) (c : ℕ) (xs₀ : List ℕ) (W : VertexWords w c (length xs₀)) (xs : List ℕ) (e : ℕ) (h : e < c) (L : EndLoop w c xs₀ xs e) where
-  pub from-inside : at w (c + e) < length xs
-  from-inside = omega (arith, W .inside e h, L .size)
-
-  pub to-inside : at w (c + at w e) < length xs
-  to-inside = omega (arith, W .inside (at w e) (W .table .nexts e h), L .size)
-
   -- what is left at e, once the kind of its edge is known
   turned : (ys : List ℕ) (s b : Bool) → singularWord c e (at w (2 * c + e)) ≡ s → boundaryWord e (at w (2 * c + e)) ≡ b → length ys ≡ length xs → ((v : ℕ) (r t : Bool) → finished (at ys v) r t ≡ finished (at xs v) ((touchesAt w c v e && s) || r) ((touchesAt w c v e && b) || t)) → EndLoop w c xs₀ ys (e + 1)
   turned ys s b p q n f =
@@ -191,15 +193,17 @@ module _ (w : List ℕ) (c : ℕ) (xs₀ : List ℕ) (W : VertexWords w c (lengt
   end-turn =
       let a = at w (c + e) in
       let b = at w (c + at w e) in
+      let from = from-inside w c (length xs₀) W xs (L .size) e h in
+      let to = to-inside w c (length xs₀) W xs (L .size) e h in
       record {
         boundary = λ m.
             turned (twiceRaised xs a b) false true (ne-eqb (at w (2 * c + e)) c (omega arith)) (eq-eqb (at w (2 * c + e)) e m)
             (length-set (set xs a (raised (at xs a))) b (raised (at (set xs a (raised (at xs a))) b)) ∙ length-set xs a (raised (at xs a)))
-            (λ v r t. rw (raise-at (set xs a (raised (at xs a))) b v (omega (arith, to-inside, length-set xs a (raised (at xs a)))), raise-at xs a v from-inside, both-raised (at xs v) (eqb v a) (eqb v b)) (end-boundary (at xs v) (eqb v a || eqb v b) r t));
+            (λ v r t. rw (raise-at (set xs a (raised (at xs a))) b v (omega (arith, to, length-set xs a (raised (at xs a)))), raise-at xs a v from, both-raised (at xs v) (eqb v a) (eqb v b)) (end-boundary (at xs v) (eqb v a || eqb v b) r t));
         singular = λ m.
             turned (set (set xs a 3) b 3) true false (eq-eqb (at w (2 * c + e)) c m) (ne-eqb (at w (2 * c + e)) e (omega arith))
             (length-set (set xs a 3) b 3 ∙ length-set xs a 3)
-            (λ v r t. rw (at-set (set xs a 3) b 3 v (omega (arith, to-inside, length-set xs a 3)), at-set xs a 3 v from-inside, both-set (at xs v) 3 (eqb v a) (eqb v b)) (end-singular (at xs v) (eqb v a || eqb v b) r t));
+            (λ v r t. rw (at-set (set xs a 3) b 3 v (omega (arith, to, length-set xs a 3)), at-set xs a 3 v from, both-set (at xs v) 3 (eqb v a) (eqb v b)) (end-singular (at xs v) (eqb v a || eqb v b) r t));
         regular = λ m k.
             turned xs false false (ne-eqb (at w (2 * c + e)) c k) (ne-eqb (at w (2 * c + e)) e m) refl
             (λ v r t. end-regular (at xs v) (touchesAt w c v e) r t);

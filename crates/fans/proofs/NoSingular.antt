@@ -1,33 +1,24 @@
 -- A list whose number of singular edges is 0 has no corner on one: the first use of a singular edge would be counted.
-use Prim.Native.Nat.{ℕ, zero, suc, _+_, _*_, _≤_, _<_}
+use Prim.Native.Nat.{ℕ, _+_, _*_, _≤_, _<_}
 use mathlib.Core.Path.{_≡_, refl, sym, _∙_, ap}
-use mathlib.Core.Bool.{Bool, true, false, cond, true≢false}
+use mathlib.Core.Bool.{true}
 use mathlib.Core.List.{List, [], _∷_}
 use mathlib.Core.Logic.{inl}
 use native.Mathlib.Omega.{arith}
 use borrow.Author.Tests.{eq-eqb, ne-eqb}
 use lib.IntN.{ℤ}
-use lib.ListN.{length, getD}
-use Rattle.order.specs.Choose.{choose, count}
+use lib.ListN.{length}
+use Rattle.order.specs.Choose.{count}
+use Rattle.order.proofs.Lists.{at-in, choose-some}
 use Rattle.mates.specs.Mates.{many, startsMany}
-use Rattle.edges.specs.Uses.{uses, startsSingular, singularEdges}
+use Rattle.edges.specs.Uses.{uses, startsSingular, singularEdges, useAt, noUse}
 use Rattle.edges.specs.Table.{tableOf}
-use Rattle.edges.proofs.Uses.{useAt, corner-at}
+use Rattle.edges.proofs.Uses.{corner-at}
 use Rattle.edges.proofs.Mates.{mate, word, sharing, sharing-is, sharing-faces, in-sharing, sharing-same, mate-many, word-many}
 use Rattle.edges.proofs.Table.{table-mate}
-use Rattle.groups.specs.Groups.{noUse}
 use Rattle.groups.specs.Forest.{at, Grouped}
 use Rattle.fans.specs.Singular.{NoneWhereZero}
 use Rattle.groups.proofs.Counting.{word-kept}
-
-none-counted : {A : Type 0} (p : A → Bool) (d : A) (xs : List A) → count p xs ≡ 0 → (i : ℕ) → i < length xs → p (getD xs i d) ≡ true → ⊥
-none-counted p d [] n i h q = absurd (omega arith)
-none-counted p d (x ∷ xs) n i h q = go (p x) refl (none-counted p d xs) n i h q
-  where
-    go : (t : Bool) → p x ≡ t → (count p xs ≡ 0 → (i : ℕ) → i < length xs → p (getD xs i d) ≡ true → ⊥) → length (cond t (x ∷ choose p xs) (choose p xs)) ≡ 0 → (i : ℕ) → i < suc (length xs) → p (getD (x ∷ xs) i d) ≡ true → ⊥
-    go true e ih n i h q = omega arith
-    go false e ih n zero h q = true≢false (sym q ∙ e)
-    go false e ih n (suc i) h q = ih n i (omega arith) q
 
 -- the first of three or more corners that share an edge
 starts-many : (l : List ℤ) (a b : ℕ) (xs : List ℕ) → sharing l a b ≡ xs → 3 ≤ length xs → (x : ℕ) × (x < length (uses l)) × (startsSingular (uses l) (useAt l x) ≡ true)
@@ -44,7 +35,8 @@ not-many l n e h m =
     let a = useAt l e .from in
     let b = useAt l e .to in
     let s = starts-many l a b (sharing l a b) refl (omega (arith, sharing-faces l a b, mate-many l e h .0 m)) in
-    none-counted (startsSingular (uses l)) noUse (uses l) n (s .0) (s .1) (s .2)
+    let some : 0 < singularEdges l = choose-some (startsSingular (uses l)) (useAt l (s .0)) (uses l) (at-in noUse (uses l) (s .0) (s .1)) (s .2) in
+    omega arith
 
 pub none-where-zero : (l : List ℤ) (c : ℕ) (w : List ℕ) (edges : ℕ) → Grouped l c w → edges ≡ singularEdges l → NoneWhereZero w c edges
 none-where-zero l c w edges G q = record { none = λ z e h. ne-eqb (at w (2 * c + e)) c (no z e h) }

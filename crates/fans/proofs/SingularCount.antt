@@ -14,15 +14,12 @@ use lib.ListN.{length, getD, set, drop, replicate, length-set, getD-replicate, d
 use lib.Seq.{drop-cons}
 use Rattle.list.specs.Faces.{num, vertices}
 use Rattle.order.specs.Choose.{choose, count}
+use Rattle.order.proofs.Blocks.{bit}
 use Rattle.fans.specs.Classes.{isSingularClass}
 use Rattle.groups.specs.Forest.{at, VertexWords}
 use Rattle.fans.specs.Marks.{touchesAt, marksEnd, singularWord, fanMark, finished}
 use Rattle.fans.specs.Singular.{isSingularMark, fanMet, secondFan, afterFans, MadeSingular, EndsCounted, FansCounted}
-use Rattle.fans.proofs.Marking.{at-set, both-set, ends-step}
-
--- 1 where t holds
-abbrev bit : Bool → ℕ
-bit t = cond t 1 0
+use Rattle.fans.proofs.Marking.{at-set, from-inside, to-inside, both-set, ends-step}
 
 -- what a store does to a count
 count-set : (p : ℕ → Bool) (xs : List ℕ) (v x : ℕ) → v < length xs → count p (set xs v x) + bit (p (at xs v)) ≡ count p xs + bit (p x)
@@ -114,22 +111,17 @@ module _ (w : List ℕ) (c n : ℕ) (W : VertexWords w c n) (xs : List ℕ) (k e
   abbrev b : ℕ
   b = at w (c + at w e)
 
-  in-from : a < length xs
-  in-from = omega (arith, W .inside e h, L .size)
-
-  in-to : b < length xs
-  in-to = omega (arith, W .inside (at w e) (W .table .nexts e h), L .size)
-
   ends-met : (ys zs : List ℕ) (s t : ℕ) → MadeSingular xs a ys s → MadeSingular ys b zs t → at w (2 * c + e) ≡ c → EndsLoop w c n zs (k + s + t) (e + 1)
   ends-met ys zs s t M N m =
-      let to : b < length (set xs a 2) = omega (arith, in-to, length-set xs a 2) in
+      let from = from-inside w c n W xs (L .size) e h in
+      let to : b < length (set xs a 2) = omega (arith, to-inside w c n W xs (L .size) e h, length-set xs a 2) in
       let both : zs ≡ set (set xs a 2) b 2 = N .marked ∙ ap (λ (x : List ℕ). set x b 2) (M .marked) in
       record {
         size = ap length both ∙ length-set (set xs a 2) b 2 ∙ length-set xs a 2 ∙ L .size;
         few = omega (arith, L .few, M .few, N .few);
         counted = omega (arith, L .counted, M .counted, N .counted);
         left = λ v i.
-            rw (both, at-set (set xs a 2) b 2 v to, at-set xs a 2 v in-from, both-set (at xs v) 2 (eqb v a) (eqb v b))
+            rw (both, at-set (set xs a 2) b 2 v to, at-set xs a 2 v from, both-set (at xs v) 2 (eqb v a) (eqb v b))
             (end-met (at xs v) (eqb v a || eqb v b) (marksEnd (singularWord c) w c v (e + 1) (c - (e + 1))) ∙ (rw (ends-step (singularWord c) w c v e h, eq-eqb (at w (2 * c + e)) c m) at (L .left v i)));
       }
 
@@ -144,7 +136,13 @@ module _ (w : List ℕ) (c n : ℕ) (W : VertexWords w c n) (xs : List ℕ) (k e
       }
 
   pub ends-turn : EndsTurn w c n xs k e
-  ends-turn = record { from-inside = in-from; to-inside = in-to; singular = ends-met; other = ends-passed }
+  ends-turn =
+      record {
+        from-inside = from-inside w c n W xs (L .size) e h;
+        to-inside = to-inside w c n W xs (L .size) e h;
+        singular = ends-met;
+        other = ends-passed;
+      }
 
 pub ends-counted : (w : List ℕ) (c n : ℕ) (xs : List ℕ) (k e : ℕ) → c ≤ e → EndsLoop w c n xs k e → EndsCounted w c xs k
 ends-counted w c n xs k e h L =

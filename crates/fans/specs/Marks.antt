@@ -12,15 +12,14 @@ use Prim.Native.Nat.{ℕ, zero, suc, _+_, _*_}
 use mathlib.Core.List.{List}
 use mathlib.Core.Bool.{Bool, false, cond, _&&_, _||_}
 use lib.Dec.{eqb}
-use Rattle.order.specs.Choose.{count}
-use Rattle.groups.specs.Groups.{countFrom}
+use Rattle.order.specs.Choose.{count, upFrom}
 use Rattle.groups.specs.Forest.{at, isRoot}
 
 abbrev pub isRootOn : List ℕ → ℕ → ℕ → ℕ → Bool
 isRootOn w c v i = isRoot w c i && eqb v (at w (c + i))
 
 abbrev pub rootsOn : List ℕ → ℕ → ℕ → ℕ → ℕ → ℕ
-rootsOn w c v e n = count (isRootOn w c v) (countFrom e n)
+rootsOn w c v e n = count (isRootOn w c v) (upFrom e n)
 
 abbrev pub fanMark : ℕ → ℕ
 fanMark zero = 0

@@ -11,9 +11,10 @@ use borrow.Author.Count.{below-more}
 use lib.Dec.{ltb}
 use lib.ListN.{length, take, set, length-set}
 use lib.Seq.{getD-set-same, getD-set-other, take-set-le}
+use Rattle.order.proofs.Lists.{length-upFrom, getD-upFrom}
 use Rattle.groups.specs.Groups.{Link, mergeAll, merge, upTo, labelsOf}
 use Rattle.groups.specs.Forest.{at, Forest, Regrouped, TableWords, linksAcross, linksAtCorner, linksFromCorner, tableLinks}
-use Rattle.groups.proofs.Counting.{length-countFrom, at-countFrom, count-down, word-kept}
+use Rattle.groups.proofs.Counting.{count-down, word-kept}
 
 pub mergeAll-append : (labels : List ℕ) (ks js : List Link) → mergeAll labels (ks ++ js) ≡ mergeAll (mergeAll labels ks) js
 mergeAll-append labels [] js = refl
@@ -120,12 +121,12 @@ loop-end w₀ c w e h J =
 module _ (w : List ℕ) (p c : ℕ) (long : length w ≡ p + c) (own : (i : ℕ) → i < c → at w (p + i) ≡ i) where
   pub forest-of-own : Forest w p (upTo c)
   forest-of-own =
-      let l : length (upTo c) ≡ c = length-countFrom 0 c in
+      let l : length (upTo c) ≡ c = length-upFrom 0 c in
       record {
         long = rw l long;
         down = λ i h. omega (arith, own i (omega arith));
         same = λ i h. ap (at (upTo c)) (own i (omega arith));
-        root = λ i h q. omega (arith, at-countFrom 0 c i (omega arith));
+        root = λ i h q. omega (arith, getD-upFrom 0 c i 0 (omega arith));
       }
 
 -- one corner more its own parent

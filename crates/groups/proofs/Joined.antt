@@ -9,8 +9,8 @@ use borrow.Author.Tests.{eqb-true, eqb-false, eq-eqb, ne-eqb}
 use lib.Dec.{eqb}
 use lib.ListN.{length, set, take, drop, length-set, length-map, length-drop, length-append, drop-of-length-le}
 use lib.Seq.{getD-set-same, getD-set-other, getD-drop, getD-append-add, take-set-le, take-at, take-all, length-take-le}
+use Rattle.order.proofs.Lists.{getD-mapped}
 use Rattle.groups.specs.Groups.{Link, merge, mergeAll, replaced}
-use Rattle.groups.proofs.Counting.{map-at}
 use Rattle.groups.specs.Forest.{at, link, Forest, Descends, Rises, Climbs, Regrouped, linksAcross}
 
 replaced-from : (b a : ℕ) → replaced b a b ≡ a
@@ -29,7 +29,7 @@ replaced-to b a = go (eqb a b)
 -- the root b gets the parent a, a root not after b
 module _ (w : List ℕ) (p : ℕ) (labels : List ℕ) (F : Forest w p labels) (a b : ℕ) (a≤b : a ≤ b) (inside : b < length labels) (ra : at labels a ≡ a) (rb : at labels b ≡ b) where
   merged-at : (i : ℕ) → i < length labels → at (map (replaced b a) labels) i ≡ replaced b a (at labels i)
-  merged-at i h = map-at (replaced b a) labels i h
+  merged-at i h = getD-mapped (replaced b a) labels i 0 0 h
 
   word-same : (i : ℕ) → i ≡ b → at (set w (p + b) a) (p + i) ≡ a
   word-same i e = rw e (getD-set-same w (p + b) a 0 (omega (arith, F .long)))

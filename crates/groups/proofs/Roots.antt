@@ -9,8 +9,7 @@ use borrow.Author.Tests.{eqb-true, eqb-false, eq-eqb, ne-eqb, leb-true, leb-fals
 use lib.Dec.{leb, ltb, eqb}
 use lib.ListN.{length, drop, drop-of-length-le}
 use lib.Seq.{drop-cons}
-use Rattle.order.specs.Choose.{choose}
-use Rattle.groups.specs.Groups.{countFrom}
+use Rattle.order.specs.Choose.{choose, upFrom}
 use Rattle.groups.specs.Distinct.{isIn, distinctAfter, distinct}
 use Rattle.groups.specs.Forest.{at, Forest}
 
@@ -55,7 +54,7 @@ module _ (w : List ℕ) (p : ℕ) (labels : List ℕ) (F : Forest w p labels) wh
 
 -- of the corners e to e + n - 1 those that q holds of and that are their own labels
 abbrev pub rootsIn : (ℕ → Bool) → List ℕ → ℕ → ℕ → List ℕ
-rootsIn q labels e n = choose (λ (i : ℕ). eqb (at labels i) i && q i) (countFrom e n)
+rootsIn q labels e n = choose (λ (i : ℕ). eqb (at labels i) i && q i) (upFrom e n)
 
 -- of the labels of the corners from e on those of the corners that q holds of
 abbrev pub pick : (ℕ → Bool) → ℕ → List ℕ → List ℕ

@@ -11,17 +11,16 @@ use lib.IntN.{ℤ}
 use lib.ListN.{length, drop, length-map, drop-of-length-le}
 use lib.Seq.{drop-cons}
 use Rattle.order.specs.Choose.{All}
-use Rattle.order.proofs.Lists.{all-append}
+use Rattle.order.proofs.Lists.{all-append, length-upFrom, getD-upFrom, getD-mapped}
 use Rattle.mates.specs.Mates.{Mate, alone, other, many, mateWord}
-use Rattle.edges.specs.Uses.{uses, lo, hi}
+use Rattle.edges.specs.Uses.{uses, lo, hi, useAt, noUse}
 use Rattle.edges.specs.Table.{tableOf}
-use Rattle.edges.proofs.Uses.{useAt, corner-at, next-below, to-next}
+use Rattle.edges.proofs.Uses.{corner-at, next-below, to-next}
 use Rattle.edges.proofs.Faces.{on-edge}
 use Rattle.edges.proofs.Mates.{mate, Regular, mate-regular}
 use Rattle.edges.proofs.Table.{table-long, table-next, table-vertex, table-mate}
-use Rattle.groups.specs.Groups.{Link, noUse, linksOf, linksAt, linksFrom, links, everyEdge, upTo, replaced, merge, mergeAll, labelsOf, fanLabels}
+use Rattle.groups.specs.Groups.{Link, linksOf, linksAt, linksFrom, links, everyEdge, upTo, replaced, merge, mergeAll, labelsOf, fanLabels}
 use Rattle.groups.specs.Forest.{at, link, TableWords, linksAcross, linksAtCorner, linksFromCorner, tableLinks}
-use Rattle.groups.proofs.Counting.{map-at, length-countFrom, at-countFrom}
 
 module _ (l : List ℤ) where
   abbrev c : ℕ
@@ -88,7 +87,7 @@ module _ (at-vertex : ℕ → ℕ) where
       let b = at labels (k .two) in
       let m : i < length labels = rw (length-map labels (replaced (max a b) (min a b))) at h in
       let same : at-vertex a ≡ at-vertex b = o (k .one) (s .0) ∙ s .2 ∙ sym (o (k .two) (s .1)) in
-      rw (map-at (replaced (max a b) (min a b)) labels i m) (go a b (at labels i) (lower-upper a b same) (o i m) (eqb (at labels i) (max a b)) refl)
+      rw (getD-mapped (replaced (max a b) (min a b)) labels i 0 0 m) (go a b (at labels i) (lower-upper a b same) (o i m) (eqb (at labels i) (max a b)) refl)
     where
       go : (a b x : ℕ) → at-vertex (min a b) ≡ at-vertex (max a b) → at-vertex x ≡ at-vertex i → (t : Bool) → eqb x (max a b) ≡ t → at-vertex (cond t (min a b) x) ≡ at-vertex i
       go a b x e d true q = e ∙ ap at-vertex (sym (eqb-true x (max a b) q)) ∙ d
@@ -102,7 +101,7 @@ module _ (at-vertex : ℕ → ℕ) where
   labels-vertices : (c : ℕ) (ks : List Link) → All (SameVertex c) ks → OnVertices (labelsOf c ks)
   unfolding labelsOf
   labels-vertices c ks a =
-      mergeAll-vertices c ks (upTo c) (length-countFrom 0 c) a (λ i h. ap at-vertex (at-countFrom 0 c i (rw length-countFrom at h) ∙ omega arith))
+      mergeAll-vertices c ks (upTo c) (length-upFrom 0 c) a (λ i h. ap at-vertex (getD-upFrom 0 c i 0 (rw length-upFrom at h) ∙ omega arith))
 
 module _ (l : List ℤ) where
   abbrev vertex : ℕ → ℕ

@@ -11,14 +11,15 @@
 --                      and then its earliest corner
 --   groupLabels l      the cut's groups: labels of the corners of l over all regular edges
 --   fanLabels l        the fans: the same, whatever the cut joins
-use Prim.Native.Nat.{ℕ, zero, suc, min, max}
+use Prim.Native.Nat.{ℕ, min, max}
 use mathlib.Core.List.{List, [], _∷_, _++_, map}
 use mathlib.Core.Bool.{Bool, true, cond, _&&_}
 use lib.Dec.{ltb, eqb}
 use lib.IntN.{ℤ}
 use lib.ListN.{length, getD}
+use Rattle.order.specs.Choose.{upFrom}
 use Rattle.mates.specs.Mates.{Mate, alone, other, many}
-use Rattle.edges.specs.Uses.{Use, uses, mateOf}
+use Rattle.edges.specs.Uses.{Use, uses, mateOf, noUse}
 
 pub record Link : Type 0 where
   pub one : ℕ
@@ -29,9 +30,6 @@ linksOf u v =
     cond (eqb (u .from) (v .from))
     (record { one = u .corner; two = v .corner } ∷ record { one = u .next; two = v .next } ∷ [])
     (record { one = u .corner; two = v .next } ∷ record { one = u .next; two = v .corner } ∷ [])
-
-abbrev pub noUse : Use
-noUse = record { corner = 0; next = 0; from = 0; to = 0 }
 
 -- the links at the use u, whose mate is m
 abbrev pub linksAt : (Use → Bool) → List Use → Use → Mate → List Link
@@ -50,13 +48,8 @@ links J us = linksFrom J us us
 abbrev pub everyEdge : Use → Bool
 everyEdge u = true
 
--- s, s + 1, .. : n numbers
-abbrev pub countFrom : ℕ → ℕ → List ℕ
-countFrom s zero = []
-countFrom s (suc n) = s ∷ countFrom (suc s) n
-
 abbrev pub upTo : ℕ → List ℕ
-upTo c = countFrom 0 c
+upTo c = upFrom 0 c
 
 abbrev pub replaced : ℕ → ℕ → ℕ → ℕ
 replaced from to x = cond (eqb x from) to x

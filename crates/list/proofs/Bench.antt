@@ -4,7 +4,7 @@ use mathlib.Core.Path.{_≡_, refl, sym}
 use mathlib.Core.List.{List, [], _∷_, map}
 use native.Mathlib.Omega.{arith}
 use lib.IntN.{ℤ, pos, negsuc}
-use lib.ListN.{length, replicate, length-replicate}
+use lib.ListN.{replicate, length-replicate}
 use Rattle.list.specs.Limits.{maxEntries, maxVertices}
 use Rattle.list.specs.Check.{checkOf, checkFaces, faceFault, refused, accepted}
 use Rattle.list.specs.declared.CheckAnswer.{CheckAnswer}

@@ -1,6 +1,6 @@
 -- Laws of the check's walk over the faces: where it starts, a turn over a sound face, a fault, the end.
-use Prim.Native.Nat.{ℕ, zero, suc, _+_, _-_, _≤_, _<_}
-use mathlib.Core.Path.{_≡_, refl, sym, _∙_, ap, ap₂}
+use Prim.Native.Nat.{ℕ, suc, _+_, _-_, _≤_, _<_}
+use mathlib.Core.Path.{_≡_, refl, _∙_, ap, ap₂}
 use mathlib.Core.Bool.{Bool, true, false, cond}
 use mathlib.Core.List.{List, [], _∷_}
 use native.Mathlib.Omega.{arith}
@@ -8,7 +8,7 @@ use borrow.Author.Tests.{lt-ltb, le-ltb}
 use lib.IntN.{ℤ}
 use lib.ListN.{length, take, drop, replicate, length-replicate}
 use lib.Seq.{drop-drop}
-use Rattle.list.specs.Faces.{isEnd, runs, push, Face, facesFrom, faces, corners, runLength}
+use Rattle.list.specs.Faces.{isEnd, runs, push, facesFrom, faces, corners, runLength}
 use Rattle.list.specs.Check.{faceFault, byFault, checkFaces, checkOf, accepted, refused}
 use Rattle.list.specs.Limits.{maxEntries, maxVertices}
 use Rattle.list.specs.Flags.{Flags}

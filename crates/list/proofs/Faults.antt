@@ -2,13 +2,13 @@
 use Prim.Native.Nat.{ℕ, zero, suc, _≤_, _<_}
 use mathlib.Core.Path.{_≡_, refl}
 use mathlib.Core.Bool.{Bool, true, false, cond, true≢false}
-use mathlib.Core.List.{List, [], _∷_}
+use mathlib.Core.List.{List, []}
 use native.Mathlib.Omega.{arith}
 use borrow.Author.Tests.{lt-ltb, le-ltb, leb-false}
 use lib.Dec.{ltb}
 use lib.IntN.{ℤ, pos, negsuc}
 use lib.ListN.{length, getD, replicate}
-use Rattle.list.specs.Faces.{isEnd, isNatural, NoEnd, Naturals, firstWhere, num, vertices}
+use Rattle.list.specs.Faces.{isEnd, isNatural, NoEnd, Naturals, num, vertices}
 use Rattle.list.specs.Check.{outside, firstOutside, firstRepeat, faceFault}
 use Rattle.list.specs.declared.FaceFault.{FaceFault}
 use Rattle.list.specs.declared.FaceFault.the-variants as Fault·

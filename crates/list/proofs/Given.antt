@@ -1,5 +1,5 @@
 -- The check's answer is the one that the code table gives: each code with its place *exactly when* its row says.
-use Prim.Native.Nat.{ℕ, zero, suc, _+_, _≤_, _<_}
+use Prim.Native.Nat.{ℕ, zero, suc, _+_, _<_}
 use mathlib.Core.Path.{_≡_, refl, sym, _∙_, ap, subst, subst₂}
 use mathlib.Core.Bool.{Bool, true, false, cond}
 use mathlib.Core.List.{List, [], _∷_}
@@ -11,7 +11,7 @@ use lib.ListN.{length, getD}
 use Rattle.list.specs.Limits.{maxEntries, maxVertices}
 use Rattle.list.specs.Faces.{isEnd, runs, push, Face, facesFrom, faces, corners}
 use Rattle.list.specs.Check.{ValidFace, Valid, faceFault, byFault, checkFaces, checkOf, refused, accepted}
-use Rattle.list.specs.Codes.{run, startOf, Within, FirstFaulty, Row3, Row4, Row5, Row}
+use Rattle.list.specs.Codes.{run, startOf, Within, FirstFaulty, Row}
 use Rattle.list.specs.Show.{spanIn}
 use Rattle.list.specs.declared.CheckAnswer.{CheckAnswer}
 use Rattle.list.specs.declared.FaceFault.{FaceFault}

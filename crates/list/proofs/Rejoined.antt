@@ -1,7 +1,7 @@
 -- The faces' parts and their -1 put together again give the list.
 use Prim.Native.Nat.{ℕ, zero, suc, _+_}
 use mathlib.Core.Path.{_≡_, refl, sym, _∙_, ap}
-use mathlib.Core.Bool.{Bool, true, false, cond, true≢false, false≢true}
+use mathlib.Core.Bool.{Bool, true, false, cond, false≢true}
 use mathlib.Core.List.{List, [], _∷_, map}
 use native.Mathlib.Omega.{arith}
 use lib.IntN.{ℤ, pos, negsuc}
@@ -9,7 +9,7 @@ use lib.ListN.{length}
 use Rattle.list.specs.Faces.{isEnd, push, runs, Face, facesFrom, faces, end, rejoined, endsClosed}
 use Rattle.list.proofs.Runs.{runs-first}
 
-end-only : (x : ℤ) → isEnd x ≡ true → x ≡ end
+pub end-only : (x : ℤ) → isEnd x ≡ true → x ≡ end
 end-only (pos k) e = absurd (false≢true e)
 end-only (negsuc zero) e = refl
 end-only (negsuc (suc k)) e = absurd (false≢true e)

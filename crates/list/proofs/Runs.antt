@@ -1,19 +1,18 @@
 -- Laws of runs and of the cursor's steps: what a list is from one position on.
-use Prim.Native.Nat.{ℕ, zero, suc, _+_, _-_, _≤_, _<_}
+use Prim.Native.Nat.{ℕ, suc, _+_, _-_, _≤_, _<_}
 use mathlib.Core.Path.{_≡_, refl, sym, _∙_, ap, ap₂, subst₃}
-use mathlib.Core.Bool.{Bool, true, false, cond}
-use mathlib.Core.List.{List, [], _∷_, _++_}
+use mathlib.Core.Bool.{Bool, true, false}
+use mathlib.Core.List.{List, [], _∷_}
 use native.Mathlib.Numerals.{add-one}
 use native.Mathlib.Omega.{arith}
-use lib.IntN.{ℤ, pos, negsuc}
+use lib.IntN.{ℤ, pos}
 use native.Mathlib.Nat.{add-suc, add-sub-cancel-left}
 use native.Mathlib.Decide.{decLt}
-use lib.ListN.{length, getD, take, drop, length-drop, drop-of-length-le}
-use lib.Seq.{drop-cons, drop-drop, length-take-le, getD-take}
-use Rattle.list.specs.Faces.{isEnd, runLength, NoEnd, runs, push, Face, facesFrom, stepAt}
+use lib.ListN.{length, take, drop, length-drop, drop-of-length-le}
+use lib.Seq.{drop-drop, length-take-le, getD-take}
+use Rattle.list.specs.Faces.{isEnd, runLength, NoEnd, runs, Face, facesFrom, stepAt}
 use Rattle.list.proofs.First.{first-fits, first-before}
 use Rattle.list.specs.declared.Cursor.{Cursor}
-use Rattle.list.specs.declared.Step.{Step}
 use Rattle.list.specs.declared.Step.the-variants as Step·
 
 -- a list that isn't empty is its first run, then the runs behind the -1 that ends it

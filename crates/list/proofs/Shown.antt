@@ -7,7 +7,7 @@ use native.Mathlib.Nat.{add-sub-cancel-left}
 use native.Mathlib.Decide.{decLt}
 use lib.IntN.{ℤ}
 use lib.ListN.{length, take, drop, drop-of-length-le}
-use Rattle.list.specs.Faces.{runs, runLength, Face, facesFrom, faces}
+use Rattle.list.specs.Faces.{runs, runLength, facesFrom}
 use Rattle.list.specs.Show.{spanIn, spanOf, faceIn, faceOf}
 use Rattle.list.specs.declared.Cursor.{Cursor}
 use Rattle.list.specs.declared.Span.{Span}

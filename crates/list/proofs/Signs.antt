@@ -1,10 +1,10 @@
 -- Laws of one signed entry z: what the code's tests and casts, made on its 32 bits, say of it in the words of the definitions.
 -- Each asks that z fits, which a slice's element does.
-use Prim.Native.Nat.{ℕ, zero, suc, _-_, _≤_, _<_, _^_}
+use Prim.Native.Nat.{ℕ, zero, suc, _-_, _<_, _^_}
 use mathlib.Core.Path.{_≡_, refl, sym}
-use mathlib.Core.Bool.{Bool, true, false, true≢false}
+use mathlib.Core.Bool.{true, false, true≢false}
 use native.Mathlib.Omega.{arith}
-use borrow.Author.Tests.{ltb-true, lt-ltb, le-ltb, ne-eqb}
+use borrow.Author.Tests.{ltb-true, le-ltb, ne-eqb}
 use lib.Dec.{T, leb, eqb}
 use lib.IntN.{ℤ, pos, negsuc, natAbs}
 use lib.Signed.{mag, ltZ, nonNeg}
@@ -15,7 +15,7 @@ use Rattle.list.specs.Faces.{isEnd, isNatural, num}
 use Rattle.list.specs.Check.{outside}
 
 -- the bits of z read back are z
-read-back : (z : ℤ) → mag z < 2 ^ 31 → toZ w32 (ofZ w32 z) ≡ z
+pub read-back : (z : ℤ) → mag z < 2 ^ 31 → toZ w32 (ofZ w32 z) ≡ z
 read-back z f = toZ-ofZ w32 z (record { sfits = f })
 
 pub end-bits : (z : ℤ) → mag z < 2 ^ 31 → eqb (ofZ w32 z) 4294967295 ≡ isEnd z

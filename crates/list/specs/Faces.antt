@@ -21,7 +21,6 @@ use mathlib.Core.List.{List, [], _∷_, _++_, map}
 use mathlib.Core.Bool.{Bool, true, false, cond}
 use lib.IntN.{ℤ, pos, negsuc}
 use lib.ListN.{length, getD, drop}
-use Rattle.list.specs.declared.Cursor.{Cursor}
 use Rattle.list.specs.declared.Step.{Step}
 use Rattle.list.specs.declared.Step.the-variants as Step·
 

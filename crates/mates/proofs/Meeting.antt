@@ -17,7 +17,7 @@ use lib.ListN.{length, getD, take, drop, set, replicate, length-set, length-repl
 use lib.Seq.{take-suc, take-all, getD-take, getD-set-same, getD-set-other, length-take-le}
 use Rattle.order.specs.Choose.{choose, count, All, upFrom}
 use Rattle.order.specs.Sort.{part, Kept, digitIs, Sorted, keyAt, lower, higher, Arranged, KeysBelow, Grouped}
-use Rattle.order.proofs.Lists.{In, all-at, all-of, all-in, all-map, in-choose, all-both, in-upFrom, choose-append, choose-none, choose-same, choose-few, length-upFrom, Rising, rising-choose, rising-upFrom}
+use Rattle.order.proofs.Lists.{In, at-in, all-at, all-of, all-in, all-map, in-choose, all-both, in-upFrom, choose-append, choose-none, choose-same, choose-few, length-upFrom, Rising, rising-choose, rising-upFrom}
 use Rattle.order.proofs.Parts.{length-part, getD-part, kept-none, kept-part, kept-set, kept-trans}
 use Rattle.order.proofs.Blocks.{all-choose, all-chosen, bit, count-split}
 use Rattle.mates.specs.Mates.{mateAmong, mateWord, startsMany}
@@ -38,11 +38,6 @@ in-all : (P : ℕ → Type 0) (x : ℕ) (xs : List ℕ) → All P xs → In x xs
 in-all P x [] a i = absurd i
 in-all P x (y ∷ ys) a (inl e) = rw e (a .0)
 in-all P x (y ∷ ys) a (inr i) = in-all P x ys (a .1) i
-
-at-in : (xs : List ℕ) (p : ℕ) → p < length xs → In (getD xs p 0) xs
-at-in [] p h = absurd (omega arith)
-at-in (x ∷ xs) zero h = inl refl
-at-in (x ∷ xs) (suc p) h = inr (at-in xs p (omega arith))
 
 sorted-at : (f : ℕ → ℕ) (xs : List ℕ) → Sorted f xs → (p q : ℕ) → p < q → q < length xs → f (getD xs p 0) ≤ f (getD xs q 0)
 sorted-at f [] s p q h k = absurd (omega arith)
@@ -148,7 +143,7 @@ module _ (c i : ℕ) (w ls : List ℕ) (m : Met c i w ls) (h : i < c) where
       go : (lastAt c w ls corner ≡ 0) ⊎ ((p : ℕ) × (p < i) × (cornerAt c w p ≡ lastAt c w ls corner)) → lastAt c w ls corner ≡ corner
       go (inl z) = z ∙ sym (first-zero s (ap (keyAt ks) (sym z) ∙ k))
       go (inr p) =
-          let here : In (getD (take i xs) (p .0) 0) (take i xs) = at-in (take i xs) (p .0) (rw (length-take-le i xs (omega (arith, long-order))) (p .1)) in
+          let here : In (getD (take i xs) (p .0) 0) (take i xs) = at-in 0 (take i xs) (p .0) (rw (length-take-le i xs (omega (arith, long-order))) (p .1)) in
           let there : In (lastAt c w ls corner) (take i xs) = rw (getD-take i xs (p .0) 0 (p .1) ∙ p .2) at here in
           absurd (rw s at (in-choose (digitIs (keyAt ks) key) (lastAt c w ls corner) (take i xs) there (eq-eqb (keyAt ks (lastAt c w ls corner)) key k)))
   last-met (z ∷ zs) s k = sym (rw s at (m .last i (omega arith) h))

@@ -85,6 +85,14 @@ module _ {A : Type 0} where
   in-at d x (y ∷ ys) (inl e) = (0, omega arith, sym e)
   in-at d x (y ∷ ys) (inr i) = let r = in-at d x ys i in (suc (r .0), omega (arith, r .1), r .2)
 
+  pub at-in : (d : A) (xs : List A) (i : ℕ) → i < length xs → In (getD xs i d) xs
+  at-in d [] i h = absurd (omega arith)
+  at-in d (x ∷ xs) zero h = inl refl
+  at-in d (x ∷ xs) (suc i) h = inr (at-in d xs i (omega arith))
+
+  pub choose-some : (p : A → Bool) (x : A) (xs : List A) → In x xs → p x ≡ true → 0 < length (choose p xs)
+  choose-some p x xs i e = omega (arith, in-at x x (choose p xs) (in-choose p x xs i e) .1)
+
   pub choose-few : (p : A → Bool) (xs : List A) → length (choose p xs) ≤ length xs
   choose-few p [] = omega arith
   choose-few p (x ∷ xs) = go (p x) (choose-few p xs)
@@ -110,6 +118,11 @@ module _ {A B : Type 0} where
   pub map-append : (f : A → B) (xs ys : List A) → map f (xs ++ ys) ≡ map f xs ++ map f ys
   map-append f [] ys = refl
   map-append f (x ∷ xs) ys = ap (λ (l : List B). f x ∷ l) (map-append f xs ys)
+
+  pub getD-mapped : (f : A → B) (xs : List A) (i : ℕ) (d : A) (b : B) → i < length xs → getD (map f xs) i b ≡ f (getD xs i d)
+  getD-mapped f [] i d b h = absurd (omega arith)
+  getD-mapped f (x ∷ xs) zero d b h = refl
+  getD-mapped f (x ∷ xs) (suc i) d b h = getD-mapped f xs i d b (omega arith)
 
   -- to choose among the images is to choose by the image
   pub choose-map : (p : B → Bool) (f : A → B) (xs : List A) → choose p (map f xs) ≡ map f (choose (λ (x : A). p (f x)) xs)

@@ -12,29 +12,26 @@ use lib.Seq.{drop-cons}
 use lib.Signed.{mag, ltZ}
 use mir.Syntax.{w32}
 use mir.Val.{ofZ, toZ}
-use mir.ValLaws.{toZ-ofZ}
+use Rattle.list.proofs.Signs.{read-back}
 use Rattle.program.specs.Printed.{countTo, vertexCount}
 
 module _ (z : ℤ) (f : mag z < 2 ^ 31) where
-  back : toZ w32 (ofZ w32 z) ≡ z
-  back = toZ-ofZ w32 z (record { sfits = f })
-
   pub negative-none : ltZ (toZ w32 (ofZ w32 z)) (pos 0) ≡ true → 0 ≡ countTo z
-  negative-none = rw back (go z)
+  negative-none = rw (read-back z f) (go z)
     where
       go : (z : ℤ) → ltZ z (pos 0) ≡ true → 0 ≡ countTo z
       go (pos k) h = absurd (omega (arith, ltb-true k 0 h))
       go (negsuc k) h = refl
 
   pub natural-one-more : ltZ (toZ w32 (ofZ w32 z)) (pos 0) ≡ false → natAbs (toZ w32 (ofZ w32 z)) + 1 ≡ countTo z
-  natural-one-more = rw back (go z)
+  natural-one-more = rw (read-back z f) (go z)
     where
       go : (z : ℤ) → ltZ z (pos 0) ≡ false → natAbs z + 1 ≡ countTo z
       go (pos k) h = refl
       go (negsuc k) h = absurd (true≢false h)
 
   pub natural-small : natAbs (toZ w32 (ofZ w32 z)) ≤ 2 ^ 31
-  natural-small = rw back (go z f)
+  natural-small = rw (read-back z f) (go z f)
     where
       go : (z : ℤ) → mag z < 2 ^ 31 → natAbs z ≤ 2 ^ 31
       go (pos k) h = omega arith

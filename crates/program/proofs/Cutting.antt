@@ -23,7 +23,8 @@ use Rattle.cut.specs.Cut.{wordsNeeded, cutRefused, cutAccepted, cutOf, isCut, c
 use Rattle.cut.specs.declared.CutAnswer.{CutAnswer}
 use Rattle.program.specs.Limits.{inputEntries}
 use Rattle.program.specs.Printed.{vertexCount, lineFeed, line, listLine, cutNumbers, cutAnswer, cutLists, printedCut, Read}
-use Rattle.program.proofs.Fitting.{map-fits, new-list-fits, new-list-length, map-length, text-short}
+use Rattle.renumber.proofs.Sizes.{new-list-length, map-length}
+use Rattle.program.proofs.Fitting.{map-fits, new-list-fits, text-short}
 
 -- a test that could have refused has not
 passed : (x : Bool) (code place : ℕ) (rest : CutAnswer) → 0 < code → cond x (cutRefused code place) rest .code ≡ 0 → cond x (cutRefused code place) rest ≡ rest

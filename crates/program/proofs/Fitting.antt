@@ -1,15 +1,15 @@
 -- Entries of 32 bits: the entries of the new list and of the map are such where those of the list are, and their texts are short.
 use Prim.Native.Nat.{ℕ, zero, suc, _+_, _*_, _≤_}
-use mathlib.Core.Path.{_≡_, refl, ap}
 use mathlib.Core.List.{List, [], _∷_, map}
 use mathlib.Core.Bool.{Bool, true, false, cond}
 use native.Mathlib.Omega.{arith}
 use lib.Dec.{eqb}
 use lib.IntN.{ℤ, pos, negsuc}
-use lib.ListN.{length, getD, length-append, length-map}
+use lib.ListN.{length, getD, length-append}
 use Rattle.list.specs.Faces.{isEnd, corners}
 use Rattle.number.specs.Decimal.{width}
 use Rattle.text.specs.Writing.{entryText, joint, itemText, entriesText, written, Fits32, AllFit}
+use Rattle.text.proofs.RoundTrip.{tail-fits}
 use Rattle.number.proofs.Putting.{digits-length}
 use Rattle.groups.specs.Distinct.{distinct, placeIn}
 use Rattle.renumber.specs.Renumber.{newNumbers, refilled, newListOf, mapOf}
@@ -19,13 +19,10 @@ pub fit-cons : (x : ℤ) (xs : List ℤ) → Fits32 x → AllFit xs → AllFit (
 fit-cons x xs f fs zero h = f
 fit-cons x xs f fs (suc i) h = fs i (omega arith)
 
-fit-tail : (x : ℤ) (xs : List ℤ) → AllFit (x ∷ xs) → AllFit xs
-fit-tail x xs f i h = f (suc i) (omega arith)
-
 fit-at : (l : List ℤ) → AllFit l → (i : ℕ) → Fits32 (getD l i (pos 0))
 fit-at [] f i = omega arith
 fit-at (x ∷ xs) f zero = f 0 (omega arith)
-fit-at (x ∷ xs) f (suc i) = fit-at xs (fit-tail x xs f) i
+fit-at (x ∷ xs) f (suc i) = fit-at xs (tail-fits x xs f) i
 
 fit-map : (f : ℕ → ℤ) → ((x : ℕ) → Fits32 (f x)) → (xs : List ℕ) → AllFit (map f xs)
 fit-map f h [] = λ i k. absurd (omega arith)
@@ -33,7 +30,7 @@ fit-map f h (x ∷ xs) = fit-cons (f x) (map f xs) (h x) (fit-map f h xs)
 
 fit-corners : (l : List ℤ) → AllFit l → AllFit (corners l)
 fit-corners [] f = f
-fit-corners (x ∷ xs) f = go (isEnd x) (fit-corners xs (fit-tail x xs f))
+fit-corners (x ∷ xs) f = go (isEnd x) (fit-corners xs (tail-fits x xs f))
   where
     go : (b : Bool) → AllFit (corners xs) → AllFit (cond b (corners xs) (x ∷ corners xs))
     go true fs = fs
@@ -65,9 +62,9 @@ up-map m f h (x ∷ xs) (suc j) = up-map m f h xs j
 
 refilled-fits : (l : List ℤ) (ks : List ℕ) → AllFit l → Up 2147483647 ks → AllFit (refilled l ks)
 refilled-fits [] ks f u = f
-refilled-fits (x ∷ xs) [] f u = fit-cons x (refilled xs []) (f 0 (omega arith)) (refilled-fits xs [] (fit-tail x xs f) u)
+refilled-fits (x ∷ xs) [] f u = fit-cons x (refilled xs []) (f 0 (omega arith)) (refilled-fits xs [] (tail-fits x xs f) u)
 refilled-fits (x ∷ xs) (k ∷ ks) f u =
-    go (isEnd x) (refilled-fits xs (k ∷ ks) (fit-tail x xs f) u) (refilled-fits xs ks (fit-tail x xs f) (λ j. u (suc j)))
+    go (isEnd x) (refilled-fits xs (k ∷ ks) (tail-fits x xs f) u) (refilled-fits xs ks (tail-fits x xs f) (λ j. u (suc j)))
   where
     go : (b : Bool) → AllFit (refilled xs (k ∷ ks)) → AllFit (refilled xs ks) → AllFit (cond b (x ∷ refilled xs (k ∷ ks)) (pos k ∷ refilled xs ks))
     go true g h = fit-cons x (refilled xs (k ∷ ks)) (f 0 (omega arith)) g
@@ -79,24 +76,6 @@ new-list-fits l labels f h =
     refilled-fits l (newNumbers labels) f
     (up-map 2147483647 (λ (x : ℕ). placeIn x (distinct labels)) (λ x. omega (arith, place-within x (distinct labels))) labels)
 
-refilled-length : (l : List ℤ) (ks : List ℕ) → length (refilled l ks) ≡ length l
-refilled-length [] ks = refl
-refilled-length (x ∷ xs) [] = ap suc (refilled-length xs [])
-refilled-length (x ∷ xs) (k ∷ ks) = go (isEnd x) (refilled-length xs (k ∷ ks)) (refilled-length xs ks)
-  where
-    go : (b : Bool) → length (refilled xs (k ∷ ks)) ≡ length xs → length (refilled xs ks) ≡ length xs
-        → length (cond b (x ∷ refilled xs (k ∷ ks)) (pos k ∷ refilled xs ks)) ≡ suc (length xs)
-    go true g h = ap suc g
-    go false g h = ap suc h
-
-pub new-list-length : (l : List ℤ) (labels : List ℕ) → length (newListOf l labels) ≡ length l
-unfolding newListOf
-new-list-length l labels = refilled-length l (newNumbers labels)
-
-pub map-length : (l : List ℤ) (labels : List ℕ) → length (mapOf l labels) ≡ length (distinct labels)
-unfolding mapOf
-map-length l labels = length-map (distinct labels) (λ (x : ℕ). getD (corners l) (placeIn x labels) (pos 0))
-
 -- ---- texts
 
 entry-short : (x : ℤ) → Fits32 x → length (entryText x) ≤ 11
@@ -106,7 +85,7 @@ entry-short (negsuc m) f = omega (arith, digits-length (width (suc m)) (suc m), 
 entries-short : (l : List ℤ) → AllFit l → length (entriesText l) ≤ 13 * length l + 1
 entries-short [] f = omega arith
 entries-short (x ∷ xs) f =
-    let r = entries-short xs (fit-tail x xs f) in
+    let r = entries-short xs (tail-fits x xs f) in
     let e = entry-short x (f 0 (omega arith)) in
     let j = joint-short xs in
     omega (arith, length-append (itemText (x ∷ xs)) (entriesText xs), length-append (entryText x) (joint xs))

@@ -14,14 +14,14 @@ use lib.Dec.{eqb}
 use lib.ListN.{length, getD, set, take, drop, length-set, length-map, take-append-drop}
 use lib.Seq.{getD-set-same, getD-set-other, getD-take, getD-drop, drop-set-lt, ext-getD, length-take-le, take-at}
 use Rattle.list.specs.Faces.{corners}
-use Rattle.order.specs.Choose.{choose}
-use Rattle.groups.specs.Groups.{countFrom}
+use Rattle.order.specs.Choose.{choose, upFrom}
+use Rattle.order.proofs.Lists.{getD-mapped}
 use Rattle.groups.specs.Distinct.{placeIn, distinct}
 use Rattle.renumber.specs.Renumber.{newNumbers, newVertices, refilled, newListOf, mapOf}
 use Rattle.renumber.specs.Written.{over}
 use Rattle.groups.specs.Forest.{at, Forest, VertexWords, isRoot}
 use Rattle.renumber.specs.Numbered.{CornerWords, rootVertices, Numbered, Renumbered}
-use Rattle.groups.proofs.Counting.{map-at, count-down}
+use Rattle.groups.proofs.Counting.{count-down}
 use Rattle.renumber.proofs.Filled.{Filled, filled-start, filled-more, filled-end}
 use Rattle.groups.proofs.Roots.{rootsIn, forest-earliest, parent-earlier, parent-own, root-by-parent}
 use Rattle.renumber.proofs.Places.{anyCorner, roots-split, root-place, place-of-root, distinct-all}
@@ -177,7 +177,7 @@ module _ (w₀ : List ℕ) (c : ℕ) (size : length w₀ ≡ 4 * c) (w : List �
         let front : length (take c w) ≡ c = length-take-le c w (omega (arith, N .long)) in
         let whole : length (map (λ (x : ℕ). placeIn x (distinct labels)) labels) ≡ c = length-map labels (λ (x : ℕ). placeIn x (distinct labels)) ∙ count in
         ext-getD 0 (take c w) (map (λ (x : ℕ). placeIn x (distinct labels)) labels) (front ∙ sym whole)
-        (λ i l. getD-take c w i 0 (omega arith) ∙ N .placed labels F .numbers i (omega arith) ∙ rw (← distinct-is) (sym (map-at (λ (x : ℕ). placeIn x (distinct labels)) labels i (omega arith))))
+        (λ i l. getD-take c w i 0 (omega arith) ∙ N .placed labels F .numbers i (omega arith) ∙ rw (← distinct-is) (sym (getD-mapped (λ (x : ℕ). placeIn x (distinct labels)) labels i 0 0 (omega arith))))
 
     numbers-written : w ≡ newNumbers labels ++ drop c w₀
     numbers-written = sym (take-append-drop c w) ∙ rw (first, N .rest)
@@ -196,11 +196,11 @@ module _ (w₀ : List ℕ) (c : ℕ) (size : length w₀ ≡ 4 * c) (w : List �
 abbrev entryOf : List ℤ → List ℕ → ℕ → ℤ
 entryOf l labels x = getD (corners l) (placeIn x labels) (pos 0)
 
-map-chosen : (p q : ℕ → Bool) (f : ℕ → ℤ) (g : ℕ → ℕ) (n s : ℕ) → ((i : ℕ) → i < s + n → p i ≡ q i) → ((i : ℕ) → i < s + n → q i ≡ true → f i ≡ pos (g i)) → map f (choose p (countFrom s n)) ≡ map pos (map g (choose q (countFrom s n)))
+map-chosen : (p q : ℕ → Bool) (f : ℕ → ℤ) (g : ℕ → ℕ) (n s : ℕ) → ((i : ℕ) → i < s + n → p i ≡ q i) → ((i : ℕ) → i < s + n → q i ≡ true → f i ≡ pos (g i)) → map f (choose p (upFrom s n)) ≡ map pos (map g (choose q (upFrom s n)))
 map-chosen p q f g zero s a b = refl
 map-chosen p q f g (suc n) s a b = go (q s) refl (map-chosen p q f g n (suc s) (λ i h. a i (omega arith)) (λ i h. b i (omega arith)))
   where
-    go : (t : Bool) → q s ≡ t → map f (choose p (countFrom (suc s) n)) ≡ map pos (map g (choose q (countFrom (suc s) n))) → map f (choose p (countFrom s (suc n))) ≡ map pos (map g (choose q (countFrom s (suc n))))
+    go : (t : Bool) → q s ≡ t → map f (choose p (upFrom (suc s) n)) ≡ map pos (map g (choose q (upFrom (suc s) n))) → map f (choose p (upFrom s (suc n))) ≡ map pos (map g (choose q (upFrom s (suc n))))
     go true d ih = rw (a s (omega arith), d, b s (omega arith) d) (ap (λ (r : List ℤ). pos (g s) ∷ r) ih)
     go false d ih = rw (a s (omega arith), d) ih
 

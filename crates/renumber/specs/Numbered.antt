@@ -10,8 +10,7 @@ use mathlib.Core.List.{List, _++_, map}
 use lib.IntN.{ℤ, pos}
 use lib.ListN.{length, getD, drop}
 use Rattle.list.specs.Faces.{corners}
-use Rattle.order.specs.Choose.{choose}
-use Rattle.groups.specs.Groups.{countFrom}
+use Rattle.order.specs.Choose.{choose, upFrom}
 use Rattle.groups.specs.Forest.{at, Forest, VertexWords, isRoot}
 use Rattle.renumber.specs.Renumber.{newNumbers, newListOf, newVertices, mapOf}
 use Rattle.renumber.specs.Written.{over}
@@ -22,7 +21,7 @@ pub record CornerWords (l : List ℤ) (c : ℕ) (w : List ℕ) : Type 0 where
   pub entries : (e : ℕ) → e < c → getD (corners l) e (pos 0) ≡ pos (at w (c + e))
 
 abbrev pub rootVertices : List ℕ → ℕ → ℕ → ℕ → List ℕ
-rootVertices w c e n = map (λ (i : ℕ). at w (c + i)) (choose (isRoot w c) (countFrom e n))
+rootVertices w c e n = map (λ (i : ℕ). at w (c + i)) (choose (isRoot w c) (upFrom e n))
 
 pub record Numbered (w : List ℕ) (c : ℕ) (w′ : List ℕ) (old new : List ℤ) (roots : ℕ) : Type 0 where
   pub low : (j : ℕ) → j < c → at w′ j < c

@@ -202,7 +202,7 @@ joint-passed p (x ∷ xs) = rw (add-two p)
 head-fits : (x : ℤ) (xs : List ℤ) → AllFit (x ∷ xs) → Fits32 x
 head-fits x xs h = h 0 (omega arith)
 
-tail-fits : (x : ℤ) (xs : List ℤ) → AllFit (x ∷ xs) → AllFit xs
+pub tail-fits : (x : ℤ) (xs : List ℤ) → AllFit (x ∷ xs) → AllFit xs
 tail-fits x xs h i k = h (suc i) (omega arith)
 
 -- the first entry of a list is the first number of its text

@@ -12,9 +12,9 @@ use denote.Ref.{now}
 use Rattle.list.specs.Faces.{num, vertices}
 use Rattle.list.proofs.Repeats.{vertices-long}
 use Rattle.order.specs.Choose.{choose}
-use Rattle.edges.specs.Uses.{usesOfFace, isEdge, onEdge, usesOn}
+use Rattle.edges.specs.Uses.{usesOfFace, isEdge, onEdge, usesOn, noUse}
 use Rattle.order.proofs.Lists.{choose-few}
-use Rattle.edges.proofs.Uses.{noUse, uses-face-long}
+use Rattle.edges.proofs.Uses.{uses-face-long}
 use Rattle.edges.proofs.Filling.{place}
 use Rattle.edges.proofs.Question.{counted-one, counted-none}
 use Rattle.edges.proofs.face.uses_on.Statement.{statement}

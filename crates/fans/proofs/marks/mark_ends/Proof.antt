@@ -22,12 +22,12 @@ next-in c = c .before .before .before .before .pre .table .nexts (c .before .loo
 from-in : (c : tie.In-loop Inv-loop μ-loop) → at (now (c .before .before .before .before .args .w)) (c .before .before .before .before .args .c + c .before .loop .e) < length (c .before .loop .marks)
 from-in c =
     let z = c .before .before .before .before in
-    from-inside (now (z .args .w)) (z .args .c) (now (z .args .marks)) (z .pre) (c .before .loop .marks) (c .before .loop .e) (c .loop-test .taken) (c .before .loop .inv .1)
+    from-inside (now (z .args .w)) (z .args .c) (length (now (z .args .marks))) (z .pre) (c .before .loop .marks) (c .before .loop .inv .1 .size) (c .before .loop .e) (c .loop-test .taken)
 
 to-in : (c : tie.In-loop Inv-loop μ-loop) → at (now (c .before .before .before .before .args .w)) (c .before .before .before .before .args .c + at (now (c .before .before .before .before .args .w)) (c .before .loop .e)) < length (c .before .loop .marks)
 to-in c =
     let z = c .before .before .before .before in
-    to-inside (now (z .args .w)) (z .args .c) (now (z .args .marks)) (z .pre) (c .before .loop .marks) (c .before .loop .e) (c .loop-test .taken) (c .before .loop .inv .1)
+    to-inside (now (z .args .w)) (z .args .c) (length (now (z .args .marks))) (z .pre) (c .before .loop .marks) (c .before .loop .inv .1 .size) (c .before .loop .e) (c .loop-test .taken)
 
 loop-holds : tie.Need-loop-holds Inv-loop μ-loop
 loop-holds c = (omega arith, end-start (now (c .before .before .args .w)) (c .before .before .args .c) (now (c .before .before .args .marks)))

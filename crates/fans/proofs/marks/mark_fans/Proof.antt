@@ -69,7 +69,7 @@ loop-again : tie.Need-loop-again Inv-loop μ-loop
 loop-again c =
     let l = c .before .before .before .loop in
     let z = c .before .before .before .before in
-    let turn = fan-turn (now (z .args .w)) (z .args .c) (length (now (z .args .marks))) (z .pre .0 .inside) (l .marks) (l .e) (c .before .before .loop-test .taken) (l .inv .1) in (
+    let turn = fan-turn (now (z .args .w)) (z .args .c) (length (now (z .args .marks))) (z .pre .0) (l .marks) (l .e) (c .before .before .loop-test .taken) (l .inv .1) in (
       omega arith,
       ⊎-elim (λ w. rw (w .4) (turn .first (w .0 .taken) (w .3 .taken)))
           (⊎-elim (λ w. rw (w .4) (turn .again (w .0 .taken) (w .3 .left))) (λ w. rw (w .1) (turn .child (w .0 .left))))

@@ -1,6 +1,6 @@
 -- `rules::face_fault` meets its contract: each return is the case of `faceFault` that the tests on the way lead to.
 use Prim.Native.Nat.{_≤_}
-use mathlib.Core.Path.{_≡_, refl, sym}
+use mathlib.Core.Path.{refl, sym}
 use native.Mathlib.Omega.{arith}
 use lib.ListN.{length}
 use denote.Ref.{now}

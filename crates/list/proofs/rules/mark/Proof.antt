@@ -1,5 +1,5 @@
 -- `rules::mark` meets its contract: the flags set are those of the vertices passed, so a flag that is set tells the first repeat.
-use Prim.Native.Nat.{ℕ, _+_, _-_, _≤_, _<_}
+use Prim.Native.Nat.{ℕ, _-_, _≤_, _<_}
 use mathlib.Core.Path.{_≡_, refl, sym, _∙_, ap}
 use native.Mathlib.Omega.{arith}
 use mathlib.Core.List.{List}

@@ -1,7 +1,4 @@
 -- `rules::repeat_by_flags` meets its contract: the flags set on the way to the first repeat are cleared again.
-use mathlib.Core.Path.{_≡_}
-use mathlib.Core.List.{List}
-use Prim.Native.Nat.{ℕ}
 use denote.Ref.{now}
 use Rattle.list.specs.Faces.{vertices}
 use Rattle.list.proofs.Repeats.{clear-marked, clear-again}

@@ -1,5 +1,5 @@
 -- `rules::repeat_by_looking` meets its contract: no repeat is passed, and an entry is a repeat exactly when it is in the part before it.
-use Prim.Native.Nat.{ℕ, _+_, _-_, _≤_, _<_}
+use Prim.Native.Nat.{ℕ, _-_, _≤_, _<_}
 use mathlib.Core.Path.{_≡_, sym, _∙_}
 use mathlib.Core.Bool.{Bool, true, false}
 use mathlib.Core.List.{List}
