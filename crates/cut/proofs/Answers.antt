@@ -14,7 +14,7 @@ use Rattle.list.proofs.Given.{accepted-exactly-when, accepted-counts}
 use Rattle.groups.specs.Groups.{groupLabels}
 use Rattle.renumber.specs.Renumber.{newListOf}
 use Rattle.fans.specs.Classes.{classesOf}
-use Rattle.renumber.specs.Written.{over}
+use Rattle.list.specs.Written.{over}
 use Rattle.cut.specs.Cut.{classesRefused, classesAnswer, classesBytes, classesWork, cutRefused, cutOf, cutList, cutMap, cutWork}
 use Rattle.cut.specs.Made.{CutMade}
 use Rattle.cut.specs.declared.CutAnswer.{CutAnswer}

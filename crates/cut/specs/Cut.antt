@@ -16,7 +16,7 @@ use Rattle.list.specs.Check.{checkOf}
 use Rattle.edges.specs.Uses.{singularEdges}
 use Rattle.groups.specs.Groups.{groupLabels}
 use Rattle.renumber.specs.Renumber.{newListOf, newVertices, mapOf}
-use Rattle.renumber.specs.Written.{over}
+use Rattle.list.specs.Written.{over}
 use Rattle.fans.specs.Classes.{classesOf, singularVertices}
 use Rattle.cut.specs.declared.CutAnswer.{CutAnswer}
 use Rattle.cut.specs.declared.ClassesAnswer.{ClassesAnswer}

@@ -11,7 +11,7 @@ use Rattle.edges.specs.Uses.{singularEdges}
 use Rattle.groups.specs.Groups.{groupLabels}
 use Rattle.fans.specs.Classes.{singularVertices}
 use Rattle.renumber.specs.Renumber.{newListOf, newVertices, mapOf}
-use Rattle.renumber.specs.Written.{over}
+use Rattle.list.specs.Written.{over}
 use Rattle.renumber.specs.Numbered.{Renumbered}
 
 pub record GroupsCut (l : List ℤ) (n vertices points : ℕ) (newList map map′ : List ℤ) : Type 0 where

@@ -21,7 +21,7 @@ use Rattle.edges.specs.Uses.{Use, uses, usesOn, cornersOf, isSingular, singular
 use Rattle.groups.specs.Groups.{Link, linksOf, links, everyEdge, upTo, labelsOf, groupLabels}
 use Rattle.renumber.specs.Renumber.{newListOf, newVertices, mapOf}
 use Rattle.fans.specs.Classes.{endsEdge, singularVertices}
-use Rattle.renumber.specs.Written.{over}
+use Rattle.list.specs.Written.{over}
 use Rattle.cut.specs.Cut.{cutOf, cutList, cutMap, cutRefused}
 use Rattle.cut.specs.declared.CutAnswer.{CutAnswer}
 

@@ -4,3 +4,4 @@ pub mod Check
 pub mod Show
 pub mod Codes
 pub mod Flags
+pub mod Written

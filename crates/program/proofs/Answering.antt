@@ -14,7 +14,8 @@ use lib.Seq.{take-at, take-append-seam}
 use Rattle.number.specs.Numbers.{isMinus, unsigned, magnitudeOf, greatest, signed, ofMagnitude, numberOf}
 use Rattle.number.specs.Codes.{outOfRange}
 use Rattle.text.specs.Tokens.{Token, opening, closing, number, tokens}
-use Rattle.text.specs.Reading.{roomOf, opened, readOf, valueThen, valuesOf, entriesOf, over, readInto}
+use Rattle.list.specs.Written.{over}
+use Rattle.text.specs.Reading.{roomOf, opened, readOf, valueThen, valuesOf, entriesOf, readInto}
 use Rattle.text.specs.Writing.{Fits32, AllFit}
 use Rattle.number.specs.declared.Number.{Number}
 use Rattle.number.specs.declared.Number.the-variants.{Value, Refused}

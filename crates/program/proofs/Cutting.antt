@@ -18,7 +18,7 @@ use Rattle.number.proofs.Putting.{put-behind}
 use Rattle.groups.specs.Groups.{groupLabels}
 use Rattle.groups.specs.Distinct.{distinct}
 use Rattle.renumber.specs.Renumber.{newListOf, mapOf}
-use Rattle.renumber.specs.Written.{over}
+use Rattle.list.specs.Written.{over}
 use Rattle.cut.specs.Cut.{wordsNeeded, cutRefused, cutAccepted, cutOf, isCut, cutList, cutMap}
 use Rattle.cut.specs.declared.CutAnswer.{CutAnswer}
 use Rattle.program.specs.Limits.{inputEntries}

@@ -18,7 +18,7 @@ use Rattle.order.specs.Choose.{choose, upFrom}
 use Rattle.order.proofs.Lists.{getD-mapped}
 use Rattle.groups.specs.Distinct.{placeIn, distinct}
 use Rattle.renumber.specs.Renumber.{newNumbers, newVertices, refilled, newListOf, mapOf}
-use Rattle.renumber.specs.Written.{over}
+use Rattle.list.specs.Written.{over}
 use Rattle.groups.specs.Forest.{at, Forest, VertexWords, isRoot}
 use Rattle.renumber.specs.Numbered.{CornerWords, rootVertices, Numbered, Renumbered}
 use Rattle.groups.proofs.Counting.{count-down}

@@ -1,3 +1,2 @@
 pub mod Renumber
-pub mod Written
 pub mod Numbered

@@ -13,7 +13,7 @@ use Rattle.list.specs.Faces.{corners}
 use Rattle.order.specs.Choose.{choose, upFrom}
 use Rattle.groups.specs.Forest.{at, Forest, VertexWords, isRoot}
 use Rattle.renumber.specs.Renumber.{newNumbers, newListOf, newVertices, mapOf}
-use Rattle.renumber.specs.Written.{over}
+use Rattle.list.specs.Written.{over}
 
 pub record CornerWords (l : List ℤ) (c : ℕ) (w : List ℕ) : Type 0 where
   pub count : length (corners l) ≡ c

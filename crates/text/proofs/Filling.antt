@@ -7,7 +7,7 @@ use mathlib.Core.List.{List, [], _∷_, _++_}
 use lib.IntN.{ℤ, pos}
 use lib.ListN.{length, take, drop, set, take-append-drop}
 use lib.Seq.{drop-cons, take-suc-set, drop-set-lt, append-snoc, take-nil}
-use Rattle.text.specs.Reading.{over}
+use Rattle.list.specs.Written.{over}
 
 module _ (l : List ℤ) (k n : ℕ) where
   -- one value more

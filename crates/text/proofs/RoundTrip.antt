@@ -22,7 +22,8 @@ use Rattle.list.specs.Limits.{maxEntries}
 use Rattle.number.specs.Bytes.{tab, lineFeed, carriageReturn, space, comma, hash, openByte, closeByte, zeroByte, nineByte, minusByte, plusByte, isDigit, inNumber}
 use Rattle.number.specs.Numbers.{numberBytes, isMinus, unsigned, decimal, magnitudeOf, greatest, numberOf}
 use Rattle.text.specs.Tokens.{Token, number, tokens}
-use Rattle.text.specs.Reading.{accepted, roomOf, inside, readOf, valuesOf, over, readInto}
+use Rattle.list.specs.Written.{over}
+use Rattle.text.specs.Reading.{accepted, roomOf, inside, readOf, valuesOf, readInto}
 use Rattle.number.specs.Decimal.{width, width-one, width-more, decimalText}
 use Rattle.text.specs.Writing.{entryText, joint, entriesText, written, Fits32, AllFit}
 use Rattle.number.specs.declared.Number.the-variants.{Value}

@@ -17,7 +17,8 @@ use Rattle.number.specs.Bytes.{openByte, closeByte}
 use Rattle.number.specs.Codes.{notOfTheForm, outOfRange, tooMany}
 use Rattle.number.specs.Numbers.{numberOf, magnitudeOf, unsigned, isMinus, signed, greatest, ofMagnitude}
 use Rattle.text.specs.Tokens.{Token, opening, closing, number, tokens, tokensAt}
-use Rattle.text.specs.Reading.{refused, roomOf, behind, counted, inside, opened, readOf, valuesOf, valueThen, over, readInto}
+use Rattle.list.specs.Written.{over}
+use Rattle.text.specs.Reading.{refused, roomOf, behind, counted, inside, opened, readOf, valuesOf, valueThen, readInto}
 use Rattle.text.specs.Steps.{blank}
 use Rattle.number.specs.declared.Number.{Number}
 use Rattle.number.specs.declared.Number.the-variants.{Value, Refused}

@@ -11,15 +11,15 @@
 --   valueThen x vs     the value of the number x in front of the values vs, or none where x is refused
 --   valuesOf ks        the values of the numbers that ks begins with
 --   entriesOf ks       the entries of a text that is the things ks
---   over vs l          the values vs in front of what stays of the list l
 --   readInto t l       the lent list afterwards: the entries read in front of what stays, or all as it was
 use Prim.Native.Nat.{ℕ, suc, _+_, min}
-use mathlib.Core.List.{List, [], _∷_, _++_}
+use mathlib.Core.List.{List, [], _∷_}
 use mathlib.Core.Bool.{Bool, false, cond}
 use lib.IntN.{ℤ}
-use lib.ListN.{length, drop}
+use lib.ListN.{length}
 use lib.Dec.{eqb, ltb}
 use Rattle.list.specs.Limits.{maxEntries}
+use Rattle.list.specs.Written.{over}
 use Rattle.number.specs.Codes.{notOfTheForm, tooMany}
 use Rattle.number.specs.Numbers.{numberOf, codeOf, placeOf}
 use Rattle.text.specs.Tokens.{Token, opening, closing, number, startOf, tokens}
@@ -75,9 +75,6 @@ entriesOf [] = []
 entriesOf (opening p ∷ ks) = valuesOf ks
 entriesOf (closing p ∷ ks) = []
 entriesOf (number p bs ∷ ks) = []
-
-abbrev pub over : List ℤ → List ℤ → List ℤ
-over vs l = vs ++ drop (length vs) l
 
 unfoldable pub readInto : List ℕ → List ℤ → List ℤ
 unfolding readOf

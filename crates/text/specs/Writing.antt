@@ -16,9 +16,10 @@ use Prim.Native.Nat.{ℕ, suc, _≤_, _<_}
 use mathlib.Core.List.{List, [], _∷_, _++_}
 use mathlib.Core.Bool.{Bool, true, false, cond}
 use lib.IntN.{ℤ, pos, negsuc, natAbs}
-use lib.ListN.{length, drop, getD}
+use lib.ListN.{length, getD}
 use lib.Dec.{eqb, ltb}
 use Rattle.list.specs.Limits.{maxEntries}
+use Rattle.list.specs.Written.{over}
 use Rattle.number.specs.Codes.{tooLong, noRoom}
 use Rattle.number.specs.Bytes.{space, comma, openByte, closeByte, minusByte}
 use Rattle.number.specs.Numbers.{greatest}
@@ -60,7 +61,7 @@ writeOf l n =
 
 unfoldable pub writeInto : List ℤ → List ℕ → List ℕ
 unfolding writeOf
-writeInto l t = cond (eqb (writeOf l (length t) .code) 0) (written l ++ drop (length (written l)) t) t
+writeInto l t = cond (eqb (writeOf l (length t) .code) 0) (over (written l) t) t
 
 abbrev pub Fits32 : ℤ → Type 0
 Fits32 (pos m) = m ≤ greatest false

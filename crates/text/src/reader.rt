@@ -15,7 +15,8 @@ ghost use lib.ListN.{length, take, drop, getD};
 ghost use Rattle.number.specs.Bytes.{openByte};
 ghost use Rattle.number.specs.Numbers.{codeOf, placeOf};
 ghost use Rattle.text.specs.Tokens.{tokensAt};
-ghost use Rattle.text.specs.Reading.{refused, behind, inside, roomOf, valuesOf, over};
+ghost use Rattle.list.specs.Written.{over};
+ghost use Rattle.text.specs.Reading.{refused, behind, inside, roomOf, valuesOf};
 ghost use Rattle.text.specs.Steps.{blank, itemOf};
 
 const TOO_MANY: u32 = 13;

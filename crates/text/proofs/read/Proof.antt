@@ -8,7 +8,8 @@ use lib.ListN.{length, take, getD}
 use borrow.Author.Tests.{not-true, not-false, ltb-true}
 use Rattle.number.specs.Bytes.{openByte}
 use Rattle.text.specs.Tokens.{tokensAt}
-use Rattle.text.specs.Reading.{readOf, valuesOf, over}
+use Rattle.list.specs.Written.{over}
+use Rattle.text.specs.Reading.{readOf, valuesOf}
 use Rattle.text.specs.declared.ReadAnswer.{ReadAnswer}
 use Rattle.number.proofs.Bools.{and-left}
 use Rattle.text.proofs.Whole.{whole-unopened, read-inside, read-entries, read-fits, into-refused, refused-not}

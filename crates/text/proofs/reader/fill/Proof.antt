@@ -13,7 +13,8 @@ use denote.Enum.Declared.{tagOf}
 use Rattle.text.proofs.reader.Item.{the-type}
 use lib.ListN.{length, take, drop, length-set}
 use Rattle.text.specs.Tokens.{tokensAt}
-use Rattle.text.specs.Reading.{valuesOf, over}
+use Rattle.list.specs.Written.{over}
+use Rattle.text.specs.Reading.{valuesOf}
 use Rattle.text.proofs.Items.{values-entry, values-other}
 use Rattle.text.proofs.Filling.{fill-turn, fill-none, fill-end}
 use Rattle.text.proofs.reader.fill.Statement.{statement}
