@@ -18,6 +18,7 @@ use Rattle.edges.proofs.Faces.{and-true}
 use Rattle.edges.proofs.Mates.{sharing, sharing-faces, sharing-same, in-sharing}
 use Rattle.groups.specs.Groups.{everyEdge, groupsOfUses, fanLabels}
 use Rattle.groups.specs.Distinct.{distinct}
+use Rattle.fans.proofs.Classing.{has-corner, no-corner}
 use Rattle.fans.specs.Classes.{touches, endsEdgeOf, endsEdge, hasFace, labelsAt, fansAt, classOf}
 use Rattle.demands.specs.Renumbered.{Corner, vertexAt}
 use Rattle.demands.specs.Linked.{OneFan}
@@ -59,10 +60,6 @@ some-holds p d [] i h e = absurd (omega arith)
 some-holds p d (x ∷ xs) zero h e = or-left (p x) (some p xs) e
 some-holds p d (x ∷ xs) (suc i) h e = or-right (p x) (some p xs) (some-holds p d xs i (omega arith) e)
 
-hasFace-some : (us : List Use) (v : ℕ) → hasFace us v ≡ some (λ (u : Use). eqb v (u .from)) us
-hasFace-some [] v = refl
-hasFace-some (u ∷ us) v = ap (λ (b : Bool). eqb v (u .from) || b) (hasFace-some us v)
-
 endsEdge-some : (kind : ℕ → Bool) (us vs : List Use) (v : ℕ) → endsEdgeOf kind us vs v ≡ some (λ (u : Use). touches v u && kind (length (usesOn us (u .from) (u .to)))) vs
 endsEdge-some kind us [] v = refl
 endsEdge-some kind us (u ∷ vs) v = ap (λ (b : Bool). (touches v u && kind (length (usesOn us (u .from) (u .to)))) || b) (endsEdge-some kind us vs v)
@@ -77,13 +74,15 @@ faces-turned l a b =
 module _ (l : List ℤ) (v : ℕ) where
   has-face : hasFace (uses l) v ≡ true → Used l v
   has-face e =
-      let r = some-found (λ (u : Use). eqb v (u .from)) noUse (uses l) (sym (hasFace-some (uses l) v) ∙ e) in
-      (r .0, omega (arith, r .1, uses-long l), sym (from-at l (r .0)) ∙ sym (eqb-true v (useAt l (r .0) .from) (r .2)))
+      let r = has-corner (uses l) v e in
+      (r .0, omega (arith, r .1, uses-long l), sym (from-at l (r .0)) ∙ sym (r .2))
 
   face-has : Used l v → hasFace (uses l) v ≡ true
-  face-has r =
-      hasFace-some (uses l) v ∙
-      some-holds (λ (u : Use). eqb v (u .from)) noUse (uses l) (r .0) (omega (arith, r .1, uses-long l)) (eq-eqb v (useAt l (r .0) .from) (sym (r .2) ∙ sym (from-at l (r .0))))
+  face-has r = go (hasFace (uses l) v) refl
+    where
+      go : (b : Bool) → hasFace (uses l) v ≡ b → b ≡ true
+      go true e = refl
+      go false e = sym (no-corner (uses l) v e (r .0) (omega (arith, r .1, uses-long l))) ∙ eq-eqb v (useAt l (r .0) .from) (sym (r .2) ∙ sym (from-at l (r .0)))
 
   -- a use of an edge at v
   use-at : (w : ℕ) → 0 < facesOn l v w → (e : ℕ) × Corner l e × (onEdge v w (useAt l e) ≡ true)

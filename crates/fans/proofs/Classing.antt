@@ -46,7 +46,7 @@ labels-pick v q (u ∷ us) (x ∷ xs) e n f =
     rw (here, labels-pick v q us xs (suc e) (omega arith) (λ i h. rw (suc-add e i, ← add-suc e i) (f (suc i) (omega arith))))
 
 -- a vertex with a face is the vertex of some corner, one without is the vertex of none
-has-corner : (us : List Use) (v : ℕ) → hasFace us v ≡ true → (i : ℕ) × (i < length us) × (v ≡ getD us i noUse .from)
+pub has-corner : (us : List Use) (v : ℕ) → hasFace us v ≡ true → (i : ℕ) × (i < length us) × (v ≡ getD us i noUse .from)
 has-corner [] v h = absurd (true≢false (sym h))
 has-corner (u ∷ us) v h = go (eqb v (u .from)) refl (has-corner us v)
   where
@@ -54,7 +54,7 @@ has-corner (u ∷ us) v h = go (eqb v (u .from)) refl (has-corner us v)
     go true d ih = (0, omega arith, eqb-true v (u .from) d)
     go false d ih = let r = ih (rw d at h) in (suc (r .0), omega (arith, r .1), r .2)
 
-no-corner : (us : List Use) (v : ℕ) → hasFace us v ≡ false → (i : ℕ) → i < length us → eqb v (getD us i noUse .from) ≡ false
+pub no-corner : (us : List Use) (v : ℕ) → hasFace us v ≡ false → (i : ℕ) → i < length us → eqb v (getD us i noUse .from) ≡ false
 no-corner [] v h i l = absurd (omega arith)
 no-corner (u ∷ us) v h i l = go (eqb v (u .from)) refl (no-corner us v) i l
   where

@@ -11,7 +11,6 @@ use Rattle.list.specs.Check.{faceFault, byFault, checkFaces}
 use Rattle.list.specs.Flags.{Flags}
 use Rattle.list.specs.declared.Cursor.{Cursor}
 use Rattle.list.specs.declared.FaceFault.{FaceFault}
-use Rattle.list.specs.declared.FaceFault.the-variants as Fault·
 use Rattle.list.proofs.Runs.{Stepped, step-stepped, step-last, stepped-no-end}
 use Rattle.list.proofs.Faults.{placeIn, fault-fits}
 use Rattle.list.proofs.Checking.{Checking, sound, checking-start, checking-done, checking-face, checking-turn, checking-fits}
