@@ -1,9 +1,9 @@
--- The numbers of an answer in document 01's order ("Numbers given back, and their order"), as the C interface hands them over.
+-- The numbers of an answer in document 01's order ("Numbers given back, and their order"), as the C interface hands them over;
+-- those of the cut stand where the cut's answer is defined.
 --
 --   checkNumbers r      code, place, faces, corners
 --   edgeNumbers r       code, place, faces on the edge
 --   classesNumbers r    code, place
---   cutNumbers r        code, place, faces, corners, new vertices, singular edges, singular vertices
 --   readNumbers r       code, place, entries read
 --   writeNumbers r      code, place, the text's length
 --   spanNumbers r       where a face starts and ends
@@ -13,7 +13,6 @@ use Rattle.list.specs.declared.CheckAnswer.{CheckAnswer}
 use Rattle.list.specs.declared.Span.{Span}
 use Rattle.edges.specs.declared.EdgeAnswer.{EdgeAnswer}
 use Rattle.cut.specs.declared.ClassesAnswer.{ClassesAnswer}
-use Rattle.cut.specs.declared.CutAnswer.{CutAnswer}
 use Rattle.text.specs.declared.ReadAnswer.{ReadAnswer}
 use Rattle.text.specs.declared.WriteAnswer.{WriteAnswer}
 
@@ -25,9 +24,6 @@ edgeNumbers r = r .code ∷ r .place ∷ r .faces ∷ []
 
 abbrev pub classesNumbers : ClassesAnswer → List ℕ
 classesNumbers r = r .code ∷ r .place ∷ []
-
-abbrev pub cutNumbers : CutAnswer → List ℕ
-cutNumbers r = r .code ∷ r .place ∷ r .faces ∷ r .corners ∷ r .vertices ∷ r .«singular_edges» ∷ r .«singular_vertices» ∷ []
 
 abbrev pub readNumbers : ReadAnswer → List ℕ
 readNumbers r = r .code ∷ r .place ∷ r .entries ∷ []

@@ -7,8 +7,8 @@ ghost use Rattle.list.specs.Show.{spanOf};
 ghost use Rattle.text.specs.Reading.{readOf, readInto};
 ghost use Rattle.text.specs.Writing.{writeOf, writeInto};
 ghost use Rattle.edges.specs.Table.{edgeOf};
-ghost use Rattle.cut.specs.Cut.{cutOf, cutList, cutMap, cutWork, classesAnswer, classesBytes, classesWork};
-ghost use Rattle.brimclif.specs.Numbers.{checkNumbers, edgeNumbers, classesNumbers, cutNumbers, readNumbers, writeNumbers, spanNumbers};
+ghost use Rattle.cut.specs.Cut.{cutNumbers, cutOf, cutList, cutMap, cutWork, classesAnswer, classesBytes, classesWork};
+ghost use Rattle.brimclif.specs.Numbers.{checkNumbers, edgeNumbers, classesNumbers, readNumbers, writeNumbers, spanNumbers};
 
 // Whether the list is valid with n vertices: code, place, faces, corners.
 // Refused by 1 to 5.
@@ -70,15 +70,7 @@ pub extern "C" fn brimclif_cut(
     ensures { λ _. ⌜ now (work .exit) ≡ cutWork (now (list .entry)) n (now («new_list» .entry)) (now (map .entry)) (now (work .entry)) ⌝ }
 {
     let r = cut::cut(list, n as usize, new_list, map, work);
-    *answer = [
-        r.code as u64,
-        r.place as u64,
-        r.faces as u64,
-        r.corners as u64,
-        r.vertices as u64,
-        r.singular_edges as u64,
-        r.singular_vertices as u64,
-    ];
+    *answer = r.numbers();
 }
 
 // Reads the text into the start of the list: code, place, entries read.

@@ -1,12 +1,13 @@
 -- The answers of the cut and of the class call, and what they leave in the lent buffers (document 01, "Numbers given back, and
 -- their order"). The buffers' lengths decide codes 6 to 9; their content at entry is kept wherever nothing is written.
 --
+--   cutNumbers r           the seven numbers of the cut's answer r, in document 01's order
 --   cutOf l n a b w        the cut's answer for buffers of a, b and w: new list, map, work
 --   classesAnswer l n b w  the class call's answer for buffers of b and w: classes, work
 --   cutList, cutMap, cutWork        the new list's, the map's and the work's content after the cut
 --   classesBytes, classesWork       the class buffer's and the work's content after the class call
 use Prim.Native.Nat.{ℕ, _*_}
-use mathlib.Core.List.{List}
+use mathlib.Core.List.{List, [], _∷_}
 use mathlib.Core.Bool.{Bool, cond}
 use lib.Dec.{ltb, eqb}
 use lib.IntN.{ℤ}
@@ -24,6 +25,9 @@ use Rattle.cut.specs.declared.ClassesAnswer.{ClassesAnswer}
 -- words of work that are needed
 abbrev pub wordsNeeded : List ℤ → ℕ
 wordsNeeded l = 4 * length (corners l)
+
+abbrev pub cutNumbers : CutAnswer → List ℕ
+cutNumbers r = r .code ∷ r .place ∷ r .faces ∷ r .corners ∷ r .vertices ∷ r .«singular_edges» ∷ r .«singular_vertices» ∷ []
 
 abbrev pub cutRefused : ℕ → ℕ → CutAnswer
 cutRefused code place =

@@ -8,7 +8,7 @@ ghost use Rattle.list.specs.Faces.{corners};
 ghost use Rattle.list.specs.Check.{Valid};
 ghost use Rattle.edges.specs.Uses.{singularEdges};
 ghost use Rattle.fans.specs.Classes.{classesOf};
-ghost use Rattle.cut.specs.Cut.{cutRefused, cutOf, cutList, cutMap, cutWork, classesAnswer, classesBytes, classesWork};
+ghost use Rattle.cut.specs.Cut.{cutNumbers, cutRefused, cutOf, cutList, cutMap, cutWork, classesAnswer, classesBytes, classesWork};
 ghost use Rattle.groups.specs.Forest.{Grouped};
 ghost use Rattle.cut.specs.Made.{GroupsCut, CutMade};
 
@@ -23,6 +23,23 @@ pub struct CutAnswer {
     pub vertices: usize,
     pub singular_edges: usize,
     pub singular_vertices: usize,
+}
+
+impl CutAnswer {
+    // The seven numbers in document 01's order.
+    pub fn numbers(self) -> [u64; 7]
+        ensures { λ r. ⌜ r ≡ cutNumbers self ⌝ }
+    {
+        [
+            self.code as u64,
+            self.place as u64,
+            self.faces as u64,
+            self.corners as u64,
+            self.vertices as u64,
+            self.singular_edges as u64,
+            self.singular_vertices as u64,
+        ]
+    }
 }
 
 // The class call's answer.

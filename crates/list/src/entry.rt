@@ -1,4 +1,4 @@
-// Signed entries, read at a position of a list. These functions and `vertex_at` alone look at an entry's sign.
+// Signed entries, read at a position of a list. These functions, `vertex_at` and `end_at` alone look at an entry's sign.
 ghost use mathlib.Core.Path.{_≡_};
 ghost use mathlib.Core.Bool.{true, false};
 ghost use Prim.Native.Nat.{_+_, _<_};
@@ -6,13 +6,6 @@ ghost use lib.ListN.{length, getD, drop};
 ghost use lib.IntN.{pos};
 ghost use Rattle.list.specs.Faces.{isEnd, isNatural, num, runLength};
 ghost use Rattle.list.specs.Check.{outside};
-
-pub fn end_at(l: &[i32], i: usize) -> bool
-    requires { ⌜ i < length (now l) ⌝ }
-    ensures { λ r. ⌜ r ≡ isEnd (getD (now (l .entry)) i (pos 0)) ⌝ }
-{
-    l[i] == -1
-}
 
 // Whether the entry at i, which is not -1, is below -1 or at least n.
 pub fn outside_at(l: &[i32], i: usize, n: usize) -> bool
@@ -42,7 +35,7 @@ pub fn run_end(l: &[i32], at: usize) -> usize
 {
     let mut i = at;
     while i < l.len() {
-        if end_at(l, i) {
+        if crate::end_at(l, i) {
             return i;
         }
         i += 1;

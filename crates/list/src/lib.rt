@@ -4,7 +4,7 @@ ghost use mathlib.Core.Path.{_≡_};
 ghost use lib.ListN.{length, getD};
 ghost use lib.IntN.{pos};
 ghost use Rattle.list.specs.Limits.{maxEntries, maxVertices};
-ghost use Rattle.list.specs.Faces.{stepAt, num, faces, corners};
+ghost use Rattle.list.specs.Faces.{stepAt, isEnd, num, faces, corners};
 ghost use Rattle.list.specs.Check.{checkOf, checkFaces, accepted, refused as refusedBy};
 ghost use Rattle.list.specs.Flags.{Flags};
 ghost use Rattle.list.specs.Show.{spanOf, faceOf, asked};
@@ -100,6 +100,13 @@ impl Cursor {
             next: Cursor { at: end + 1 },
         }
     }
+}
+
+// Whether the entry at position i is the -1 that ends a face; it is not where the list ends before it.
+pub fn end_at(l: &[i32], i: usize) -> bool
+    ensures { λ r. ⌜ r ≡ isEnd (getD (now (l .entry)) i (pos 0)) ⌝ }
+{
+    if i < l.len() { l[i] == -1 } else { false }
 }
 
 // The entry at position i as a vertex, 0 where it is negative or the list ends before it.

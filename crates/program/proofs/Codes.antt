@@ -22,9 +22,9 @@ use Rattle.text.specs.Reading.{roomOf, readOf}
 use Rattle.number.specs.Decimal.{decimalText}
 use Rattle.text.specs.declared.ReadAnswer.{ReadAnswer}
 use Rattle.text.proofs.Exactly.{Verdict, by-eleven, by-twelve, by-thirteen, by-none, verdict, eleven-exactly, twelve-exactly, thirteen-exactly, accepted-exactly}
-use Rattle.cut.specs.Cut.{wordsNeeded, cutRefused, cutAccepted, cutOf}
+use Rattle.cut.specs.Cut.{cutNumbers, wordsNeeded, cutRefused, cutAccepted, cutOf}
 use Rattle.program.specs.Limits.{inputBytes, inputEntries}
-use Rattle.program.specs.Printed.{vertexCount, space, line, cutNumbers, cutAnswer, cutLists, printedCut, entriesIn, Read, tooLarge, printed, codeFor}
+use Rattle.program.specs.Printed.{vertexCount, space, line, cutAnswer, cutLists, printedCut, entriesIn, Read, tooLarge, printed, codeFor}
 use Rattle.program.proofs.Answering.{large-printed, unread-printed, read-printed, entries-read}
 
 -- ---- the reader's codes

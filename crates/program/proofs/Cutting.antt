@@ -19,10 +19,10 @@ use Rattle.groups.specs.Groups.{groupLabels}
 use Rattle.groups.specs.Distinct.{distinct}
 use Rattle.renumber.specs.Renumber.{newListOf, mapOf}
 use Rattle.list.specs.Written.{over}
-use Rattle.cut.specs.Cut.{wordsNeeded, cutRefused, cutAccepted, cutOf, isCut, cutList, cutMap}
+use Rattle.cut.specs.Cut.{cutNumbers, wordsNeeded, cutRefused, cutAccepted, cutOf, isCut, cutList, cutMap}
 use Rattle.cut.specs.declared.CutAnswer.{CutAnswer}
 use Rattle.program.specs.Limits.{inputEntries}
-use Rattle.program.specs.Printed.{vertexCount, lineFeed, line, listLine, cutNumbers, cutAnswer, cutLists, printedCut, Read}
+use Rattle.program.specs.Printed.{vertexCount, lineFeed, line, listLine, cutAnswer, cutLists, printedCut, Read}
 use Rattle.renumber.proofs.Sizes.{new-list-length, map-length}
 use Rattle.program.proofs.Fitting.{map-fits, new-list-fits, text-short}
 

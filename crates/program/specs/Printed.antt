@@ -9,7 +9,6 @@
 --   line xs          the numbers xs with one space between them, on a line of their own
 --   listLine l       the text of the list l, on a line of its own
 --   refusal c p      the seven numbers of a refusal with code c at place p
---   cutNumbers r     the seven numbers of the cut's answer r, in document 01's order
 --   cutAnswer l      the cut's answer for the entries l with the program's n, in buffers for as many entries as the program reads
 --   cutLists l       the lines of the new list and of the map
 --   printedCut l     what is printed for the entries l: the seven numbers, and if accepted the two lists
@@ -31,7 +30,7 @@ use Rattle.number.specs.Decimal.{decimalText}
 use Rattle.text.specs.Writing.{written, AllFit}
 use Rattle.groups.specs.Groups.{groupLabels}
 use Rattle.renumber.specs.Renumber.{newListOf, mapOf}
-use Rattle.cut.specs.Cut.{cutOf}
+use Rattle.cut.specs.Cut.{cutNumbers, cutOf}
 use Rattle.cut.specs.declared.CutAnswer.{CutAnswer}
 use Rattle.program.specs.Limits.{inputBytes, inputEntries, outputBytes}
 use Rattle.program.specs.declared.Response.{Response}
@@ -67,9 +66,6 @@ listLine l = written l ++ lineFeed ∷ []
 
 abbrev pub refusal : ℕ → ℕ → List ℕ
 refusal code place = code ∷ place ∷ 0 ∷ 0 ∷ 0 ∷ 0 ∷ 0 ∷ []
-
-abbrev pub cutNumbers : CutAnswer → List ℕ
-cutNumbers r = r .code ∷ r .place ∷ r .faces ∷ r .corners ∷ r .vertices ∷ r .«singular_edges» ∷ r .«singular_vertices» ∷ []
 
 unfoldable pub cutAnswer : List ℤ → CutAnswer
 cutAnswer l = cutOf l (vertexCount l) inputEntries inputEntries (4 * inputEntries)

@@ -3,13 +3,12 @@
 mod count;
 mod line;
 
-use cut::CutAnswer;
 ghost use mathlib.Core.Path.{_≡_};
 ghost use Prim.Native.Nat.{_≤_};
 ghost use lib.ListN.{length};
 ghost use Rattle.number.specs.Steps.{put};
 ghost use Rattle.program.specs.Limits.{inputBytes, outputBytes};
-ghost use Rattle.program.specs.Printed.{line as Printed·line, refusal, cutNumbers, printedCut, Read, printed, responseOf};
+ghost use Rattle.program.specs.Printed.{line as Printed·line, refusal, printedCut, Read, printed, responseOf};
 
 // The most bytes of input.
 pub const INPUT_BYTES: usize = 16_384;
@@ -47,21 +46,6 @@ fn put_refusal(code: u64, place: u64, output: &mut [u8]) -> usize
     line::put_line(&numbers, output)
 }
 
-// The cut's seven numbers in document 01's order.
-fn numbers_of(answer: CutAnswer) -> [u64; 7]
-    ensures { λ r. ⌜ r ≡ cutNumbers answer ⌝ }
-{
-    [
-        answer.code as u64,
-        answer.place as u64,
-        answer.faces as u64,
-        answer.corners as u64,
-        answer.vertices as u64,
-        answer.singular_edges as u64,
-        answer.singular_vertices as u64,
-    ]
-}
-
 // Cuts the list and puts the seven numbers, and if accepted the new list and the map, at the start of the output.
 fn put_cut(list: &[i32], output: &mut [u8]) -> usize
     requires { ⌜ Read (now list) × (outputBytes ≤ length (now output)) ⌝ }
@@ -73,7 +57,7 @@ fn put_cut(list: &[i32], output: &mut [u8]) -> usize
     let mut work = [0u32; WORK_WORDS];
     let n = count::vertex_count(list);
     let answer = cut::cut(list, n, &mut new_list, &mut map, &mut work);
-    let numbers = numbers_of(answer);
+    let numbers = answer.numbers();
     let at = line::put_line(&numbers, output);
     let code = answer.code;
     if code != 0 {

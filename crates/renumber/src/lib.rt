@@ -5,7 +5,7 @@ ghost use mathlib.Core.List.{List};
 ghost use Prim.Native.Nat.{ℕ, _*_, _<_, _≤_, _^_};
 ghost use lib.IntN.{pos};
 ghost use lib.ListN.{length, getD, set};
-ghost use Rattle.list.specs.Faces.{isEnd, corners};
+ghost use Rattle.list.specs.Faces.{corners};
 ghost use Rattle.renumber.specs.Renumber.{refilled};
 ghost use Rattle.groups.specs.Forest.{Forest, VertexWords};
 ghost use Rattle.renumber.specs.Numbered.{CornerWords, Numbered, Renumbered};
@@ -14,14 +14,6 @@ fn wide(x: u32) -> usize
     ensures { λ r. ⌜ r ≡ x ⌝ }
 {
     x as usize
-}
-
-// Whether the entry at i is the -1 that ends a face.
-fn end_at(list: &[i32], i: usize) -> bool
-    requires { ⌜ i < length (now list) ⌝ }
-    ensures { λ r. ⌜ r ≡ isEnd (getD (now (list .entry)) i (pos 0)) ⌝ }
-{
-    list[i] == -1
 }
 
 // Stores the number k as an entry.
@@ -67,7 +59,7 @@ fn fill_list(list: &[i32], w: &[u32], new_list: &mut [i32])
 {
     let mut e = 0;
     for i in 0..list.len() {
-        if end_at(list, i) {
+        if list::end_at(list, i) {
             copy_entry(list, i, new_list, i);
         } else {
             put_entry(new_list, i, w[e]);

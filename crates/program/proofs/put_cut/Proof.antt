@@ -10,9 +10,10 @@ use lib.Seq.{length-take-le}
 use Rattle.number.specs.Steps.{put}
 use Rattle.groups.specs.Groups.{groupLabels}
 use Rattle.renumber.specs.Renumber.{newListOf}
+use Rattle.cut.specs.Cut.{cutNumbers}
 use Rattle.cut.specs.declared.CutAnswer.{CutAnswer}
 use Rattle.program.specs.Limits.{inputEntries}
-use Rattle.program.specs.Printed.{vertexCount, line, listLine, cutNumbers, cutAnswer}
+use Rattle.program.specs.Printed.{vertexCount, line, listLine, cutAnswer}
 use Rattle.program.proofs.Cutting.{Parts, parts, answer-is, refused-printed, three-lines}
 use Rattle.program.proofs.put_cut.Statement.{statement}
 use Rattle.program.proofs.put_cut.Tie as tie
@@ -60,8 +61,8 @@ module _ (c : tie.After-put-line) where
   abbrev output : List ℕ
   output = start cut-made .args .output .now
 
-  numbers : c .before .before .before .numbers-of .result ≡ cutNumbers (cutAnswer (l cut-made))
-  numbers = c .before .before .before .numbers-of .ensures ∙ ap cutNumbers (answer cut-made)
+  numbers : c .before .before .before .numbers .result ≡ cutNumbers (cutAnswer (l cut-made))
+  numbers = c .before .before .before .numbers .ensures ∙ ap cutNumbers (answer cut-made)
 
   at-is : c .put-line .result ≡ length (line (cutNumbers (cutAnswer (l cut-made))))
   at-is = c .put-line .ensures .0 .0 ∙ ap (λ (xs : List ℕ). length (line xs)) numbers
@@ -107,8 +108,8 @@ slice-aggregate-cut-3 c = search needs
 cut-requires : tie.Need-cut-requires
 cut-requires c κs = search needs
 
-numbers-of-requires : tie.Need-numbers-of-requires
-numbers-of-requires c κs = search needs
+numbers-requires : tie.Need-numbers-requires
+numbers-requires c κs = search needs
 
 slice-aggregate-put-line : tie.Need-slice-aggregate-put-line
 slice-aggregate-put-line c = search needs
@@ -189,7 +190,7 @@ put-cut-spec =
     slice-aggregate-cut-2
     slice-aggregate-cut-3
     cut-requires
-    numbers-of-requires
+    numbers-requires
     slice-aggregate-put-line
     put-line-requires
     same-length
