@@ -38,8 +38,9 @@ returns d =
     let c = d .before in
     let p = c .before in
     let s = p .before .before in
+    let faulty : p .before .check .result .code ≡ 0 → ⊥ = c .if1 .taken in
     d .refused .ensures ∙
-    ap (λ (r : CheckAnswer). edgeAnswer (r .code) (r .place) 0) (p .before .check .ensures) ∙ edge-refused (now (s .args .list)) (s .args .n) (s .args .a) (s .args .b) (λ e. c .if1 .taken (sym (code p) ∙ e))
+    ap (λ (r : CheckAnswer). edgeAnswer (r .code) (r .place) 0) (p .before .check .ensures) ∙ edge-refused (now (s .args .list)) (s .args .n) (s .args .a) (s .args .b) (λ e. faulty (sym (code p) ∙ e))
 
 refused-requires-2 : tie.Need-refused-requires-2
 refused-requires-2 c κs = search needs
