@@ -1,5 +1,7 @@
 // The C interface: each function hands its arguments on and writes the answer's numbers, in document 01's order, to the caller.
 // It stands on the crates whose functions it exports; nothing in this repository stands on it.
+#![tactic(auto)]
+
 ghost use Rattle.std.specs.Prelude.{◌≡◌, length};
 ghost use Rattle.list.specs.Check.{check_of};
 ghost use Rattle.list.specs.Show.{span_of};

@@ -1,5 +1,7 @@
 // The global cut with its map, and the classes of the vertices. It stands on `groups`, `fans` and `renumber` and cites their
 // contracts only; the program and the layers of later requests stand on it.
+#![tactic(auto)]
+
 ghost use Rattle.std.specs.Prelude.{◌≡◌, ◌*◌, ◌≤◌, length, replicate};
 ghost use Rattle.list.specs.Faces.{corners};
 ghost use Rattle.list.specs.Check.{Valid};

@@ -1,5 +1,7 @@
 // Lists cut and classed, a few lines for each: the seven numbers, the new list, the map and the classes with an entry or a byte
 // more than is written, which stays as it was, and how many words of the work are left as they were.
+#![tactic(auto)]
+
 ghost use Rattle.std.specs.Prelude.{◌≡◌, ◌+◌, ◌<◌, ◌≤◌, ◌^◌, length};
 ghost use Rattle.list.specs.Limits.{max_entries};
 

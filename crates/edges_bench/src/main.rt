@@ -1,5 +1,7 @@
 // Edge tables run and compared: the bench lists with all words of their tables, questions about edges, and lists of 65,536
 // entries, with the sum of the words of each block, so that both ways of sorting run at the limit.
+#![tactic(auto)]
+
 ghost use Rattle.std.specs.Prelude.{◌≤◌, length};
 ghost use Rattle.list.specs.Limits.{max_entries};
 

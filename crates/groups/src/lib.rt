@@ -1,5 +1,7 @@
 // Groups of corners across regular edges, in the work buffer: for each corner a parent, in the block that starts at p, that is
 // not after it. It stands on `edges` and cites its contracts only; `fans`, `renumber` and `cut` stand on it.
+#![tactic(auto)]
+
 ghost use Rattle.std.specs.Prelude.{◌≡◌, ◌+◌, ◌-◌, ◌*◌, ◌<◌, ◌≤◌, ◌^◌, min, max, length, take};
 ghost use Rattle.list.specs.Faces.{corners};
 ghost use Rattle.list.specs.Check.{Valid};

@@ -10,7 +10,7 @@ use native.Mathlib.Nat.{add-suc, add-sub_cancel_left}
 use native.Mathlib.Decide.{dec_lt}
 use lib.ListN.{length, take, drop, length-drop, drop_of_length-le}
 use lib.Seq.{drop-drop, length-take-le, get_or-take}
-use Rattle.list.specs.Faces.{is_end, run_length, NoEnd, runs, Face, faces_from, step_at}
+use Rattle.list.specs.Faces.{is_end, run_length, NoEnd, runs, faces_from, step_at}
 use Rattle.list.proofs.First.{first_fits, first_before}
 use Rattle.list.specs.declared.Cursor.{Cursor}
 use Rattle.list.specs.declared.Step.TheVariants as Step·

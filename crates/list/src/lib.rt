@@ -1,9 +1,11 @@
 // Index lists in the coordIndex layout: the limits, the cursor that goes from face to face, the check, and showing one face.
 // It stands on nothing; every other crate may use it.
+#![tactic(auto)]
+
 ghost use Rattle.std.specs.Prelude.{◌≡◌, length, get_or, pos};
 ghost use Rattle.list.specs.Limits.{max_entries, max_vertices};
 ghost use Rattle.list.specs.Faces.{step_at, is_end, num, faces, corners};
-ghost use Rattle.list.specs.Check.{check_of, check_faces, accepted, refused as refusedBy};
+ghost use Rattle.list.specs.Check.{check_of, check_faces, accepted, refused as refused_by};
 ghost use Rattle.list.specs.Flags.{Flags};
 ghost use Rattle.list.specs.Show.{span_of, face_of, asked};
 
@@ -129,7 +131,7 @@ pub fn vertex_at(l: &[i32], i: usize) -> usize
 }
 
 fn refused(code: u32, place: usize) -> CheckAnswer
-    ensures { result ≡ refusedBy code place }
+    ensures { result ≡ refused_by code place }
 {
     CheckAnswer {
         code,

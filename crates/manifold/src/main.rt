@@ -1,4 +1,6 @@
 // The program: it prints what `program::respond` makes of standard input. It stands on `program`, and adds the system calls.
+#![tactic(auto)]
+
 use libc::{STDIN_FILENO, STDOUT_FILENO};
 
 fn main() {

@@ -1,5 +1,7 @@
 // Mates: for each corner of the work buffer the other use of its edge, met along the order of the corners. It stands on `order`; the
 // edge table stands on it and cites its contract only.
+#![tactic(auto)]
+
 ghost use Rattle.std.specs.Prelude.{◌≡◌, ℕ, ◌*◌, ◌≤◌, ◌<◌, length};
 ghost use Rattle.list.specs.Limits.{max_entries, max_vertices};
 ghost use Rattle.order.specs.Choose.{count, up_from};

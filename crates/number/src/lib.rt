@@ -1,5 +1,7 @@
 // Numbers in a text: the number reader, the bytes that a text is made of, and digits written.
 // It stands on nothing; the text of a list and the program's lines stand on it.
+#![tactic(auto)]
+
 pub mod bytes;
 pub mod decimal;
 

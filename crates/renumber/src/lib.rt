@@ -1,5 +1,7 @@
 // The new list and the map from the groups in the work buffer. A corner with an earlier parent takes the number that stands
 // there already, any other is the earliest of its group. It stands on `groups`; `cut` stands on it.
+#![tactic(auto)]
+
 ghost use Rattle.std.specs.Prelude.{◌≡◌, List, ℕ, ◌*◌, ◌<◌, ◌≤◌, ◌^◌, pos, length, get_or, set};
 ghost use Rattle.list.specs.Faces.{corners};
 ghost use Rattle.renumber.specs.Renumber.{refilled};

@@ -1,5 +1,7 @@
 // The text of an index list: reading and writing.
 // It stands on `list` for the limits and on `number`; programs and theorems may use it.
+#![tactic(auto)]
+
 mod reader;
 mod writer;
 

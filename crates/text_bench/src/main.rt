@@ -1,5 +1,7 @@
 // Texts read and lists written, one line for each: the whole lent list as a text, so that entries past those read show what
 // they hold, and then the three numbers of the answer. The lent list has four entries of 7.
+#![tactic(auto)]
+
 ghost use Rattle.std.specs.Prelude.{◌+◌, ◌≤◌};
 ghost use Rattle.list.specs.Limits.{max_entries};
 
