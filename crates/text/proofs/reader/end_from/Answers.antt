@@ -1,0 +1,23 @@
+-- `text::reader::end_from` meets its contract: past what separates there is the end of the text, or something that should not be there.
+use mathlib.Core.Path.{sym, ◌∙◌}
+use Rattle.text.proofs.Items.{behind_end, behind_thing}
+use borrow.Author.Rules.{rules}
+use Rattle.text.proofs.reader.end_from.Goals as goal
+
+pub skip-place-requires : goal.skip-place-requires
+skip-place-requires c = search rules
+
+pub refused_read-requires : goal.refused_read-requires
+refused_read-requires c = search rules
+
+pub returns-then-place-text : goal.returns-then-place-text
+returns-then-place-text c =
+    let a = c.args in
+    let s = c.skip-place in
+    c.refused_read.ensures ∙ sym (behind_thing a.text.now a.at s.result s.ensures a.n c.if-place-text.true)
+
+pub returns : goal.returns
+returns c =
+    let a = c.args in
+    let s = c.skip-place in
+    sym (behind_end a.text.now a.at s.result s.ensures a.n c.if-place-text.false)

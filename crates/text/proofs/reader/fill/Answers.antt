@@ -1,0 +1,77 @@
+use mathlib.Core.Path.{◌≡◌, refl, sym, ap, ◌∙◌}
+use mathlib.Core.Logic.{⊎_elim}
+use Prim.Native.Nat.{◌-◌}
+use native.Mathlib.Omega.{arith}
+use borrow.Author.Rules.{rules}
+use native.Mathlib.Nat.{sub-zero}
+use mathlib.Core.List.{List, ◌++◌}
+use lib.IntN.{ℤ}
+use mir.Syntax.{w32}
+use mir.ValLaws.{to_z-of_z}
+use denote.Enum.Declared.{tag_of}
+use Rattle.text.specs.contracts.reader.Item.{the_type}
+use lib.ListN.{length, take, drop, length-set}
+use Rattle.text.specs.Tokens.{tokens_at}
+use Rattle.list.specs.Written.{over}
+use Rattle.text.specs.Reading.{values_of}
+use Rattle.text.proofs.Items.{values_entry, values_other}
+use Rattle.text.proofs.Filling.{fill_turn, fill_none, fill_end}
+use Rattle.text.proofs.reader.fill.Goals as goal
+
+pub loop-k-init : goal.loop-k-init
+loop-k-init c = (refl, rw (sub-zero c.args.n))
+
+pub item_at-item-requires : goal.item_at-item-requires
+item_at-item-requires c = search rules
+
+pub enum_known-item : goal.enum_known-item
+enum_known-item c = search rules
+
+pub shape_of-list-in_default : goal.shape_of-list-in_default
+shape_of-list-in_default c = c.loop-k.invariant.0
+
+pub returns-in_default : goal.returns-in_default
+returns-in_default c =
+    let k = c.loop-k in
+    let a = c.args in
+    let none =
+    values_other a.text.now k.i
+    (λ p v nx e.
+    let z : tag_of the_type c.item_at-item.result ≡ 0 = ap (tag_of the_type) (c.item_at-item.ensures ∙ e) in
+    ⊎_elim (λ w. omega arith) (λ w. omega arith) c.in_default.in_default-own.keys2) in
+    sym (rw none (fill_none k.list k.k a.n)) ∙ k.invariant.1
+
+pub offset_bounds-list-k : goal.offset_bounds-list-k
+offset_bounds-list-k c = omega arith
+
+pub bounds-list-k : goal.bounds-list-k
+bounds-list-k c = omega arith
+
+pub overflow_add-k : goal.overflow_add-k
+overflow_add-k c = search rules
+
+pub loop-k-smaller : goal.loop-k-smaller
+loop-k-smaller c = omega arith
+
+pub loop-k-preserved : goal.loop-k-preserved
+loop-k-preserved c =
+    let k = c.loop-k in
+    let a = c.args in
+    let x = c.item-1.given.0 in
+    let v = x.1.0 in
+    let nx = x.1.1.0 in
+    let h = sym c.item_at-item.ensures ∙ c.in-Entry.is in
+    rw (to_z-of_z w32 v (record { sfits = c.in-Entry.known_told-1-own.given.1.0.1 })) (
+      length-set k.list k.k v ∙ k.invariant.0,
+      fill_turn k.list k.k a.n v (values_of (tokens_at a.text.now nx)) (omega arith) (omega arith)
+          ∙ ap (λ (vs : List ℤ). take k.k k.list ++ over (take (a.n - k.k) vs) (drop k.k k.list)) (sym (values_entry a.text.now k.i _ _ _ h))
+          ∙ k.invariant.1,
+    )
+
+pub shape_of-list : goal.shape_of-list
+shape_of-list c = c.loop-k.invariant.0
+
+pub returns : goal.returns
+returns c =
+    let k = c.loop-k in
+    sym (fill_end k.list k.k c.args.n (values_of (tokens_at c.args.text.now k.i)) (omega arith)) ∙ k.invariant.1

@@ -1,0 +1,70 @@
+-- `text::reader::item_at` meets its contract: the byte at the first place that does not separate says which thing stands there.
+use mathlib.Core.Path.{◌≡◌, ap, sym, ◌∙◌}
+use native.Mathlib.Numerals.{add-one}
+use native.Mathlib.Omega.{arith}
+use lib.IntN.{ℤ}
+use lib.ListN.{length}
+use mir.Syntax.{w32}
+use mir.ValLaws.{to_z-of_z}
+use Rattle.text.specs.Tokens.{tokens_at}
+use Rattle.text.specs.Steps.{item_of, item_of_number}
+use Rattle.text.specs.declared.reader.Item.TheVariants.{Entry}
+use Rattle.text.proofs.Items.{item_refused, item_end, item_opens, item_closes, item_number}
+use borrow.Author.Rules.{rules}
+use Rattle.text.proofs.reader.item_at.Goals as goal
+
+pub skip-place-requires : goal.skip-place-requires
+skip-place-requires c = search rules
+
+pub returns-then-text-place : goal.returns-then-text-place
+returns-then-text-place c =
+    let a = c.args in
+    let s = c.skip-place in
+    sym (item_end a.text.now a.at s.result s.ensures c.if-text-place.true)
+
+pub bounds-text-place : goal.bounds-text-place
+bounds-text-place c = search rules
+
+pub returns-then-b-eq-OPEN : goal.returns-then-b-eq-OPEN
+returns-then-b-eq-OPEN c =
+    let a = c.args in
+    let s = c.skip-place in
+    sym (item_opens a.text.now a.at s.result s.ensures (omega arith) c.if-b-eq-OPEN.true)
+
+pub overflow_add-result : goal.overflow_add-result
+overflow_add-result c = search rules
+
+pub returns-then-b-eq-CLOSE : goal.returns-then-b-eq-CLOSE
+returns-then-b-eq-CLOSE c =
+    let a = c.args in
+    let s = c.skip-place in
+    rw (add-one s.result) (sym (item_closes a.text.now a.at s.result s.ensures (omega arith) c.if-b-eq-CLOSE.true))
+
+pub read_number-number-requires : goal.read_number-number-requires
+read_number-number-requires c = search rules
+
+pub enum_known-number : goal.enum_known-number
+enum_known-number c = search rules
+
+pub enum_told-1 : goal.enum_told-1
+enum_told-1 c = search rules
+
+pub refusal_of-requires : goal.refusal_of-requires
+refusal_of-requires c = search rules
+
+pub returns-in_default : goal.returns-in_default
+returns-in_default c =
+    let found : item_of (length c.args.text.now) (tokens_at c.args.text.now c.args.at) ≡ item_of_number c.skip-place.result c.read_number-number.result = (let a = c.args in
+    let s = c.skip-place in
+    item_number a.text.now a.at s.result s.ensures c.if-text-place.false c.if-b-eq-OPEN.false c.if-b-eq-CLOSE.false
+    ∙ ap (item_of_number s.result) (sym c.read_number-number.ensures)) in
+    c.refusal_of.ensures ∙ item_refused _ _ _ _ c.in_default.is ∙ sym found
+
+pub returns : goal.returns
+returns c =
+    let found : item_of (length c.args.text.now) (tokens_at c.args.text.now c.args.at) ≡ item_of_number c.skip-place.result c.read_number-number.result = (let a = c.args in
+    let s = c.skip-place in
+    item_number a.text.now a.at s.result s.ensures c.if-text-place.false c.if-b-eq-OPEN.false c.if-b-eq-CLOSE.false
+    ∙ ap (item_of_number s.result) (sym c.read_number-number.ensures)) in
+    ap (λ (z : ℤ). Entry c.skip-place.result z c.in-Value.next) (to_z-of_z w32 _ (record { sfits = c.in-Value.known_told-1-own.given.0.1 }))
+    ∙ sym (found ∙ ap (item_of_number _) c.in-Value.is)

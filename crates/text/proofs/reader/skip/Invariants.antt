@@ -1,0 +1,17 @@
+-- `text::reader::skip` meets its contract. What is left of the bytes that separate, added to the place, never changes.
+use mathlib.Core.Path.{◌≡◌, refl, sym, ◌∙◌}
+use mathlib.Core.Bool.{false}
+use Prim.Native.Nat.{◌+◌, ◌-◌}
+use native.Mathlib.Omega.{arith}
+use borrow.Author.Rules.{rules}
+use borrow.Author.Tests.{not-true, not-false}
+use lib.ListN.{length, drop}
+use Rattle.text.specs.Steps.{blank}
+use Rattle.text.proofs.Lexing.{skip_more, skip_stops, skip_ends}
+use Rattle.text.proofs.reader.skip.Given as goal
+
+abbrev pub invariant-loop-i : goal.invariant-loop-i
+invariant-loop-i l = l.i + blank l.comment (drop l.i l.text) ≡ l.at + blank false (drop l.at l.text)
+
+abbrev pub decreases-loop-i : goal.decreases-loop-i
+decreases-loop-i l = length l.text - l.i
