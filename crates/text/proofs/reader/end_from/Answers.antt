@@ -13,11 +13,9 @@ refused_read-requires c = search rules
 pub returns-then-place-text : goal.returns-then-place-text
 returns-then-place-text c =
     let a = c.args in
-    let s = c.skip-place in
-    c.refused_read.ensures ∙ sym (behind_thing a.text.now a.at s.result s.ensures a.n c.if-place-text.true)
+    c.refused_read.ensures ∙ sym (behind_thing a.text.now a.at c.skip-place.result c.skip-place.ensures a.n c.if-place-text.true)
 
 pub returns : goal.returns
 returns c =
     let a = c.args in
-    let s = c.skip-place in
-    sym (behind_end a.text.now a.at s.result s.ensures a.n c.if-place-text.false)
+    sym (behind_end a.text.now a.at c.skip-place.result c.skip-place.ensures a.n c.if-place-text.false)

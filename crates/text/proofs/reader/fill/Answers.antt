@@ -1,5 +1,4 @@
-use mathlib.Core.Path.{◌≡◌, refl, sym, ap, ◌∙◌}
-use mathlib.Core.Logic.{⊎_elim}
+use mathlib.Core.Path.{refl, sym, ap, ◌∙◌}
 use Prim.Native.Nat.{◌-◌}
 use native.Mathlib.Omega.{arith}
 use borrow.Author.Rules.{rules}
@@ -8,9 +7,7 @@ use mathlib.Core.List.{List, ◌++◌}
 use lib.IntN.{ℤ}
 use mir.Syntax.{w32}
 use mir.ValLaws.{to_z-of_z}
-use denote.Enum.Declared.{tag_of}
-use Rattle.text.specs.contracts.reader.Item.{the_type}
-use lib.ListN.{length, take, drop, length-set}
+use lib.ListN.{take, drop, length-set}
 use Rattle.text.specs.Tokens.{tokens_at}
 use Rattle.list.specs.Written.{over}
 use Rattle.text.specs.Reading.{values_of}
@@ -32,14 +29,9 @@ shape_of-list-in_default c = c.loop-k.invariant.0
 
 pub returns-in_default : goal.returns-in_default
 returns-in_default c =
-    let k = c.loop-k in
     let a = c.args in
-    let none =
-    values_other a.text.now k.i
-    (λ p v nx e.
-    let z : tag_of the_type c.item_at-item.result ≡ 0 = ap (tag_of the_type) (c.item_at-item.ensures ∙ e) in
-    ⊎_elim (λ w. omega arith) (λ w. omega arith) c.in_default.in_default-own.keys2) in
-    sym (rw none (fill_none k.list k.k a.n)) ∙ k.invariant.1
+    let none = values_other a.text.now c.loop-k.i (λ p v nx e. c.in_default.not-Entry p v nx (c.item_at-item.ensures ∙ e)) in
+    sym (rw none (fill_none c.loop-k.list c.loop-k.k a.n)) ∙ c.loop-k.invariant.1
 
 pub offset_bounds-list-k : goal.offset_bounds-list-k
 offset_bounds-list-k c = omega arith
@@ -55,17 +47,15 @@ loop-k-smaller c = omega arith
 
 pub loop-k-preserved : goal.loop-k-preserved
 loop-k-preserved c =
-    let k = c.loop-k in
     let a = c.args in
-    let x = c.item-1.given.0 in
-    let v = x.1.0 in
-    let nx = x.1.1.0 in
+    let v = c.in-Entry.value in
+    let nx = c.in-Entry.next in
     let h = sym c.item_at-item.ensures ∙ c.in-Entry.is in
     rw (to_z-of_z w32 v (record { sfits = c.in-Entry.known_told-1-own.given.1.0.1 })) (
-      length-set k.list k.k v ∙ k.invariant.0,
-      fill_turn k.list k.k a.n v (values_of (tokens_at a.text.now nx)) (omega arith) (omega arith)
-          ∙ ap (λ (vs : List ℤ). take k.k k.list ++ over (take (a.n - k.k) vs) (drop k.k k.list)) (sym (values_entry a.text.now k.i _ _ _ h))
-          ∙ k.invariant.1,
+      length-set c.loop-k.list c.loop-k.k v ∙ c.loop-k.invariant.0,
+      fill_turn c.loop-k.list c.loop-k.k a.n v (values_of (tokens_at a.text.now nx)) (omega arith) (omega arith)
+          ∙ ap (λ (vs : List ℤ). take c.loop-k.k c.loop-k.list ++ over (take (a.n - c.loop-k.k) vs) (drop c.loop-k.k c.loop-k.list)) (sym (values_entry a.text.now c.loop-k.i _ _ _ h))
+          ∙ c.loop-k.invariant.1,
     )
 
 pub shape_of-list : goal.shape_of-list
@@ -73,5 +63,4 @@ shape_of-list c = c.loop-k.invariant.0
 
 pub returns : goal.returns
 returns c =
-    let k = c.loop-k in
-    sym (fill_end k.list k.k c.args.n (values_of (tokens_at c.args.text.now k.i)) (omega arith)) ∙ k.invariant.1
+    sym (fill_end c.loop-k.list c.loop-k.k c.args.n (values_of (tokens_at c.args.text.now c.loop-k.i)) (omega arith)) ∙ c.loop-k.invariant.1

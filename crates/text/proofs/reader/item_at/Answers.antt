@@ -19,8 +19,7 @@ skip-place-requires c = search rules
 pub returns-then-text-place : goal.returns-then-text-place
 returns-then-text-place c =
     let a = c.args in
-    let s = c.skip-place in
-    sym (item_end a.text.now a.at s.result s.ensures c.if-text-place.true)
+    sym (item_end a.text.now a.at c.skip-place.result c.skip-place.ensures c.if-text-place.true)
 
 pub bounds-text-place : goal.bounds-text-place
 bounds-text-place c = search rules
@@ -28,8 +27,7 @@ bounds-text-place c = search rules
 pub returns-then-b-eq-OPEN : goal.returns-then-b-eq-OPEN
 returns-then-b-eq-OPEN c =
     let a = c.args in
-    let s = c.skip-place in
-    sym (item_opens a.text.now a.at s.result s.ensures (omega arith) c.if-b-eq-OPEN.true)
+    sym (item_opens a.text.now a.at c.skip-place.result c.skip-place.ensures (omega arith) c.if-b-eq-OPEN.true)
 
 pub overflow_add-result : goal.overflow_add-result
 overflow_add-result c = search rules
@@ -37,8 +35,7 @@ overflow_add-result c = search rules
 pub returns-then-b-eq-CLOSE : goal.returns-then-b-eq-CLOSE
 returns-then-b-eq-CLOSE c =
     let a = c.args in
-    let s = c.skip-place in
-    rw (add-one s.result) (sym (item_closes a.text.now a.at s.result s.ensures (omega arith) c.if-b-eq-CLOSE.true))
+    rw (add-one c.skip-place.result) (sym (item_closes a.text.now a.at c.skip-place.result c.skip-place.ensures (omega arith) c.if-b-eq-CLOSE.true))
 
 pub read_number-number-requires : goal.read_number-number-requires
 read_number-number-requires c = search rules
@@ -55,16 +52,14 @@ refusal_of-requires c = search rules
 pub returns-in_default : goal.returns-in_default
 returns-in_default c =
     let found : item_of (length c.args.text.now) (tokens_at c.args.text.now c.args.at) ≡ item_of_number c.skip-place.result c.read_number-number.result = (let a = c.args in
-    let s = c.skip-place in
-    item_number a.text.now a.at s.result s.ensures c.if-text-place.false c.if-b-eq-OPEN.false c.if-b-eq-CLOSE.false
-    ∙ ap (item_of_number s.result) (sym c.read_number-number.ensures)) in
+    item_number a.text.now a.at c.skip-place.result c.skip-place.ensures c.if-text-place.false c.if-b-eq-OPEN.false c.if-b-eq-CLOSE.false
+    ∙ ap (item_of_number c.skip-place.result) (sym c.read_number-number.ensures)) in
     c.refusal_of.ensures ∙ item_refused _ _ _ _ c.in_default.is ∙ sym found
 
 pub returns : goal.returns
 returns c =
     let found : item_of (length c.args.text.now) (tokens_at c.args.text.now c.args.at) ≡ item_of_number c.skip-place.result c.read_number-number.result = (let a = c.args in
-    let s = c.skip-place in
-    item_number a.text.now a.at s.result s.ensures c.if-text-place.false c.if-b-eq-OPEN.false c.if-b-eq-CLOSE.false
-    ∙ ap (item_of_number s.result) (sym c.read_number-number.ensures)) in
+    item_number a.text.now a.at c.skip-place.result c.skip-place.ensures c.if-text-place.false c.if-b-eq-OPEN.false c.if-b-eq-CLOSE.false
+    ∙ ap (item_of_number c.skip-place.result) (sym c.read_number-number.ensures)) in
     ap (λ (z : ℤ). Entry c.skip-place.result z c.in-Value.next) (to_z-of_z w32 _ (record { sfits = c.in-Value.known_told-1-own.given.0.1 }))
     ∙ sym (found ∙ ap (item_of_number _) c.in-Value.is)

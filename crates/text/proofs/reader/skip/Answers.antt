@@ -1,11 +1,6 @@
-use mathlib.Core.Path.{◌≡◌, refl, sym, ◌∙◌}
-use mathlib.Core.Bool.{false}
-use Prim.Native.Nat.{◌+◌, ◌-◌}
+use mathlib.Core.Path.{refl, sym, ◌∙◌}
 use native.Mathlib.Omega.{arith}
 use borrow.Author.Rules.{rules}
-use borrow.Author.Tests.{not-true, not-false}
-use lib.ListN.{length, drop}
-use Rattle.text.specs.Steps.{blank}
 use Rattle.text.proofs.Lexing.{skip_more, skip_stops, skip_ends}
 use Rattle.text.proofs.reader.skip.Goals as goal
 
@@ -20,9 +15,8 @@ in_gap-requires c = search rules
 
 pub returns-then-not-in_gap : goal.returns-then-not-in_gap
 returns-then-not-in_gap c =
-    let k = c.loop-i in
-    sym (skip_stops c.args.text.now k.i k.comment (omega arith)
-    (sym c.in_gap.ensures ∙ c.if-not-in_gap.true)) ∙ k.invariant
+    sym (skip_stops c.args.text.now c.loop-i.i c.loop-i.comment (omega arith)
+    (sym c.in_gap.ensures ∙ c.if-not-in_gap.true)) ∙ c.loop-i.invariant
 
 pub in_comment-comment-requires : goal.in_comment-comment-requires
 in_comment-comment-requires c = search rules
@@ -35,12 +29,9 @@ loop-i-smaller c = omega arith
 
 pub loop-i-preserved : goal.loop-i-preserved
 loop-i-preserved c =
-    let k = c.loop-i in
     rw c.in_comment-comment.ensures
-    (skip_more c.args.text.now k.i k.comment (omega arith)
-    (sym c.in_gap.ensures ∙ c.if-not-in_gap.false) ∙ k.invariant)
+    (skip_more c.args.text.now c.loop-i.i c.loop-i.comment (omega arith)
+    (sym c.in_gap.ensures ∙ c.if-not-in_gap.false) ∙ c.loop-i.invariant)
 
 pub returns : goal.returns
-returns c =
-    let k = c.loop-i in
-    sym (skip_ends c.args.text.now k.i k.comment (omega arith)) ∙ k.invariant
+returns c = sym (skip_ends c.args.text.now c.loop-i.i c.loop-i.comment (omega arith)) ∙ c.loop-i.invariant

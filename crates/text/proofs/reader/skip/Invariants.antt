@@ -1,13 +1,9 @@
 -- `text::reader::skip` meets its contract. What is left of the bytes that separate, added to the place, never changes.
-use mathlib.Core.Path.{◌≡◌, refl, sym, ◌∙◌}
+use mathlib.Core.Path.{◌≡◌}
 use mathlib.Core.Bool.{false}
 use Prim.Native.Nat.{◌+◌, ◌-◌}
-use native.Mathlib.Omega.{arith}
-use borrow.Author.Rules.{rules}
-use borrow.Author.Tests.{not-true, not-false}
 use lib.ListN.{length, drop}
 use Rattle.text.specs.Steps.{blank}
-use Rattle.text.proofs.Lexing.{skip_more, skip_stops, skip_ends}
 use Rattle.text.proofs.reader.skip.Given as goal
 
 abbrev pub invariant-loop-i : goal.invariant-loop-i

@@ -69,11 +69,10 @@ returns-then-i-list c =
     let f = length-append (entry_text (get_or a.list.now a.i (pos 0))) (comma ∷ space ∷ []) in
     omega arith) in
     let a = c.args in
-    let p = c.put_entry-next in
     let r = room in record {
       value = omega arith;
-      text_after = item_put a.list.now a.i c.requires.0 a.at p.result a.text.now p.new.1.1.0
-          c.if-i-list.true c.requires.1 p.ensures.0 p.ensures.1;
+      text_after = item_put a.list.now a.i c.requires.0 a.at c.put_entry-next.result a.text.now c.put_entry-next.new.text
+          c.if-i-list.true c.requires.1 c.put_entry-next.ensures.value c.put_entry-next.ensures.text_after;
     }
 
 pub shape_of-text : goal.shape_of-text
@@ -82,5 +81,4 @@ shape_of-text c = search rules
 pub returns : goal.returns
 returns c =
     let a = c.args in
-    let p = c.put_entry-next in
-    let e = item_last a.list.now a.i c.requires.0 c.if-i-list.false in record { value = rw e p.ensures.0; text_after = rw e p.ensures.1 }
+    let e = item_last a.list.now a.i c.requires.0 c.if-i-list.false in record { value = rw e c.put_entry-next.ensures.value; text_after = rw e c.put_entry-next.ensures.text_after }

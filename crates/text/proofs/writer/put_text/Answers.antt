@@ -1,11 +1,10 @@
-use mathlib.Core.Path.{◌≡◌, refl, ap, ◌∙◌}
+use mathlib.Core.Path.{refl, ap, ◌∙◌}
 use mathlib.Core.List.{List}
-use Prim.Native.Nat.{◌+◌, ◌-◌, ◌≤◌}
+use Prim.Native.Nat.{◌+◌}
 use native.Mathlib.Omega.{arith}
 use lib.IntN.{ℤ}
 use lib.ListN.{length, drop, length-append, length-set, drop_of_length-le}
 use Rattle.text.specs.Writing.{item_text, entries_text}
-use Rattle.number.specs.Steps.{put}
 use Rattle.text.proofs.Entries.{entries_at_place, put_turn, put_whole}
 use Rattle.text.proofs.writer.put_text.Goals as goal
 
@@ -17,10 +16,9 @@ loop-i-init c = (refl, refl, simp length-set (omega arith), refl)
 
 pub put_item-at-requires : goal.put_item-at-requires
 put_item-at-requires c =
-    let k = c.loop-i in
     let l = c.args.list.now in
-    let e = ap length (entries_at_place l k.i c.loop-i-test.true) in
-    let f = length-append (item_text (drop k.i l)) (entries_text (drop (k.i + 1) l)) in
+    let e = ap length (entries_at_place l c.loop-i.i c.loop-i-test.true) in
+    let f = length-append (item_text (drop c.loop-i.i l)) (entries_text (drop (c.loop-i.i + 1) l)) in
     omega arith
 
 pub overflow_add-i : goal.overflow_add-i
@@ -31,21 +29,18 @@ loop-i-smaller c = omega arith
 
 pub loop-i-preserved : goal.loop-i-preserved
 loop-i-preserved c =
-    let k = c.loop-i in
     let l = c.args.list.now in
-    let p = c.put_item-at in
     let h = c.loop-i-test.true in
-    let e = ap length (entries_at_place l k.i h) in
-    let f = length-append (item_text (drop k.i l)) (entries_text (drop (k.i + 1) l)) in (
-      p.auto.1.1.0 ∙ k.invariant.0,
+    let e = ap length (entries_at_place l c.loop-i.i h) in
+    let f = length-append (item_text (drop c.loop-i.i l)) (entries_text (drop (c.loop-i.i + 1) l)) in (
+      c.put_item-at.auto.text ∙ c.loop-i.invariant.0,
       omega arith,
-      k.invariant.2,
-      put_turn l k.i h k.at p.result k.text p.new.1.1.0 (omega arith) p.ensures.0 p.ensures.1 ∙ k.invariant.3,
+      c.loop-i.invariant.2,
+      put_turn l c.loop-i.i h c.loop-i.at c.put_item-at.result c.loop-i.text c.put_item-at.new.text (omega arith) c.put_item-at.ensures.value c.put_item-at.ensures.text_after ∙ c.loop-i.invariant.3,
     )
 
 pub bounds-text-at : goal.bounds-text-at
 bounds-text-at c =
-    let k = c.loop-i in
     let e = ap (λ (l : List ℤ). length (entries_text l)) (drop_of_length-le c.args.list.now c.loop-i-test.false) in
     omega arith
 
@@ -54,7 +49,6 @@ shape_of-text c = simp length-set (c.loop-i.invariant.0 ∙ simp length-set)
 
 pub returns : goal.returns
 returns c =
-    let k = c.loop-i in
     let a = c.args in
     let e = ap (λ (l : List ℤ). length (entries_text l)) (drop_of_length-le a.list.now c.loop-i-test.false) in
-    put_whole a.list.now k.i k.at a.text.now k.text c.loop-i-test.false (omega arith) c.requires k.invariant.3
+    put_whole a.list.now c.loop-i.i c.loop-i.at a.text.now c.loop-i.text c.loop-i-test.false (omega arith) c.requires c.loop-i.invariant.3

@@ -1,13 +1,9 @@
 -- `text::writer::put_text` meets its contract. What is left to put, over the buffer as it is, never changes.
-use mathlib.Core.Path.{◌≡◌, refl, ap, ◌∙◌}
-use mathlib.Core.List.{List}
+use mathlib.Core.Path.{◌≡◌}
 use Prim.Native.Nat.{◌+◌, ◌-◌, ◌≤◌}
-use native.Mathlib.Omega.{arith}
-use lib.IntN.{ℤ}
-use lib.ListN.{length, drop, length-append, length-set, drop_of_length-le}
-use Rattle.text.specs.Writing.{item_text, entries_text}
+use lib.ListN.{length, drop}
+use Rattle.text.specs.Writing.{entries_text}
 use Rattle.number.specs.Steps.{put}
-use Rattle.text.proofs.Entries.{entries_at_place, put_turn, put_whole}
 use Rattle.text.proofs.writer.put_text.Given as goal
 
 abbrev pub invariant-loop-i : goal.invariant-loop-i

@@ -1,6 +1,6 @@
-use mathlib.Core.Path.{◌≡◌, refl, ap}
+use mathlib.Core.Path.{refl, ap}
 use mathlib.Core.List.{List}
-use Prim.Native.Nat.{◌+◌, ◌-◌, ◌*◌, ◌≤◌}
+use Prim.Native.Nat.{◌+◌}
 use native.Mathlib.Omega.{arith}
 use borrow.Author.Rules.{rules}
 use lib.IntN.{ℤ}
@@ -26,14 +26,12 @@ loop-i-smaller c = omega arith
 
 pub loop-i-preserved : goal.loop-i-preserved
 loop-i-preserved c =
-    let k = c.loop-i in
     let l = c.args.list.now in
-    let e = ap length (entries_at_place l k.i c.loop-i-test.true) in
-    let f = length-append (item_text (drop k.i l)) (entries_text (drop (k.i + 1) l)) in
+    let e = ap length (entries_at_place l c.loop-i.i c.loop-i-test.true) in
+    let f = length-append (item_text (drop c.loop-i.i l)) (entries_text (drop (c.loop-i.i + 1) l)) in
     omega arith
 
 pub returns : goal.returns
 returns c =
-    let k = c.loop-i in
     let e = ap (λ (l : List ℤ). length (entries_text l)) (drop_of_length-le c.args.list.now c.loop-i-test.false) in
     omega arith

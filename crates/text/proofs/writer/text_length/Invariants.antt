@@ -1,13 +1,8 @@
 -- `text::writer::text_length` meets its contract. The total and the length of what is left come to the whole.
-use mathlib.Core.Path.{◌≡◌, refl, ap}
-use mathlib.Core.List.{List}
+use mathlib.Core.Path.{◌≡◌}
 use Prim.Native.Nat.{◌+◌, ◌-◌, ◌*◌, ◌≤◌}
-use native.Mathlib.Omega.{arith}
-use borrow.Author.Rules.{rules}
-use lib.IntN.{ℤ}
-use lib.ListN.{length, drop, length-append, drop_of_length-le}
-use Rattle.text.specs.Writing.{item_text, entries_text}
-use Rattle.text.proofs.Entries.{entries_at_place}
+use lib.ListN.{length, drop}
+use Rattle.text.specs.Writing.{entries_text}
 use Rattle.text.proofs.writer.text_length.Given as goal
 
 abbrev pub invariant-loop-i : goal.invariant-loop-i
