@@ -12,7 +12,7 @@ use Rattle.edges.specs.Uses.{uses}
 use Rattle.edges.specs.Table.{table_of}
 use Rattle.edges.proofs.Uses.{uses_long}
 use Rattle.groups.specs.Groups.{labels_of, fan_labels}
-use Rattle.groups.specs.Forest.{at, Forest, TableWords, Grouped, table_links}
+use Rattle.groups.specs.Forest.{Forest, TableWords, Grouped, table_links}
 use Rattle.groups.proofs.TableLinks.{table_words, table_fans}
 
 module _ (l : List ℤ) (n c : ℕ) (ok : Valid l n) (q : c ≡ length (corners l)) where

@@ -1,9 +1,9 @@
-use mathlib.Core.Logic.{⊎_elim}
 use borrow.Author.Rules.{rules}
 use native.Mathlib.Omega.{arith}
-use Prim.Native.Nat.{◌+◌, ◌-◌, ◌*◌, ◌≤◌}
-use Rattle.groups.proofs.JoinLoop.{JoinLoop, loop_start, table_kept, turn_at, loop_end}
+use Prim.Native.Nat.{◌+◌, ◌*◌}
+use Rattle.groups.proofs.JoinLoop.{loop_start, table_kept, turn_at, loop_end}
 use Rattle.groups.proofs.join_edges.Goals as goal
+use Rattle.groups.proofs.join_edges.Goals.{then-e-m+then-m-c, then-e-m+else-m-c, else-e-m}
 
 pub loop-e-init : goal.loop-e-init
 loop-e-init c = (omega arith, loop_start c.args.w.now c.args.c)
@@ -24,14 +24,13 @@ pub overflow_cast-m : goal.overflow_cast-m
 overflow_cast-m c = omega (arith, c.slice_known-in-loop-e-1.given (2 * c.args.c + c.loop-e.e))
 
 pub join_across-requires : goal.join_across-requires
-join_across-requires c =
-    let z = c.before.before.before.before.before.before.before in (
-      table_kept z.args.w.now z.args.c c.loop-e.w c.loop-e.invariant.1.regrouped.front c.loop-e.invariant.1.long z.requires.0,
-      search rules,
-      search rules,
-      search rules,
-      c.loop-e.invariant.1.regrouped.down z.requires.2,
-    )
+join_across-requires c = (
+  table_kept c.args.w.now c.args.c c.loop-e.w c.loop-e.invariant.1.regrouped.front c.loop-e.invariant.1.long c.requires.0,
+  search rules,
+  search rules,
+  search rules,
+  c.loop-e.invariant.1.regrouped.down c.requires.2,
+)
 
 pub overflow_step-e : goal.overflow_step-e
 overflow_step-e c = omega arith
@@ -41,12 +40,14 @@ loop-e-smaller c = omega arith
 
 pub loop-e-preserved : goal.loop-e-preserved
 loop-e-preserved c =
-    let z = c.before.before.before.before.before in
-    let turn = turn_at z.args.w.now z.args.c c.loop-e.w c.loop-e.e c.loop-e-test.true c.loop-e.invariant.1 in (
+    let turn = turn_at c.args.w.now c.args.c c.loop-e.w c.loop-e.e c.loop-e-test.true c.loop-e.invariant.1 in (
       omega arith,
-      ⊎_elim (λ w. rw w.6 (turn.joins w.3.last.0 w.3.kept.0 w.0.taken w.1.taken w.3.ensures))
-          (⊎_elim (λ w. rw w.2 (turn.many w.1.left)) (λ w. rw w.1 (turn.early w.0.left)))
-          c.if-e-m.branch,
+      elim c.if-e-m.branch [
+        | then-e-m+then-m-c w ↦
+            rw w.w-is (turn.joins w.join_across.new.w w.join_across.auto.w w.if-e-m.true w.if-m-c.true w.join_across.ensures)
+        | then-e-m+else-m-c w ↦ rw w.w-is (turn.many w.if-m-c.false)
+        | else-e-m w ↦ rw w.w-is (turn.early w.if-e-m.false)
+      ],
     )
 
 pub shape_of-w : goal.shape_of-w

@@ -1,9 +1,6 @@
 -- `join_edges` meets its contract: the links joined and the links at the corners that are left always make up those of the table.
-use mathlib.Core.Logic.{⊎_elim}
-use borrow.Author.Rules.{rules}
-use native.Mathlib.Omega.{arith}
-use Prim.Native.Nat.{◌+◌, ◌-◌, ◌*◌, ◌≤◌}
-use Rattle.groups.proofs.JoinLoop.{JoinLoop, loop_start, table_kept, turn_at, loop_end}
+use Prim.Native.Nat.{◌-◌, ◌≤◌}
+use Rattle.groups.proofs.JoinLoop.{JoinLoop}
 use Rattle.groups.proofs.join_edges.Given as goal
 
 abbrev pub invariant-loop-e : goal.invariant-loop-e

@@ -1,4 +1,3 @@
-use Rattle.groups.specs.Forest.{Rises}
 use native.Mathlib.Omega.{arith}
 use Rattle.groups.proofs.Joined.{rises_on, rises_here, climbs_here}
 use Rattle.groups.proofs.root.Goals as goal

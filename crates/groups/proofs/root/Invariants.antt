@@ -1,7 +1,5 @@
 -- `root` meets its contract: each step goes to a parent, which is in the same group and not after it, and a corner whose parent is not earlier ends it.
 use Rattle.groups.specs.Forest.{Rises}
-use native.Mathlib.Omega.{arith}
-use Rattle.groups.proofs.Joined.{rises_on, rises_here, climbs_here}
 use Rattle.groups.proofs.root.Given as goal
 
 abbrev pub invariant-loop-r : goal.invariant-loop-r

@@ -1,11 +1,8 @@
 -- `separate` meets its contract: one corner more is its own parent with each turn, and no word before the block is written.
-use native.Mathlib.Omega.{arith}
 use Prim.Native.Nat.{ℕ, ◌+◌, ◌-◌, ◌≤◌, ◌<◌}
-use mathlib.Core.Path.{◌≡◌, refl}
-use borrow.Author.Count.{below_none}
-use lib.ListN.{length, take, length-set}
+use mathlib.Core.Path.{◌≡◌}
+use lib.ListN.{length, take}
 use Rattle.groups.specs.Forest.{at}
-use Rattle.groups.proofs.JoinLoop.{own_more, forest_of_own}
 use Rattle.groups.proofs.separate.Given as goal
 
 abbrev pub invariant-loop-i : goal.invariant-loop-i
