@@ -10,7 +10,7 @@ use lib.Dec.{leb, ltb, eqb}
 use lib.IntN.{ℤ}
 use lib.ListN.{length, get_or, take, drop, length-map, drop_of_length-le}
 use lib.Seq.{drop-cons, ext_get_or}
-use Rattle.order.specs.Choose.{count, up_from}
+use Rattle.order.specs.Choose.{up_from}
 use Rattle.order.proofs.Lists.{all_in, choose_some, choose_none, choose-same, get_or-mapped, length-up_from, get_or-up_from, in_up_from, up_from_in}
 use Rattle.mates.specs.Mates.{mate_word}
 use Rattle.edges.specs.Uses.{Use, uses, is_boundary, is_singular, use_at, no_use}

@@ -8,7 +8,6 @@ use native.Mathlib.Omega.{arith}
 use borrow.Author.Tests.{eq-eqb, ne_eqb}
 use lib.IntN.{ℤ}
 use lib.ListN.{length}
-use Rattle.order.specs.Choose.{count}
 use Rattle.order.proofs.Lists.{at_in, choose_some}
 use Rattle.mates.specs.Mates.{many, starts_many}
 use Rattle.edges.specs.Uses.{uses, starts_singular, singular_edge_count, use_at, no_use}
