@@ -16,7 +16,7 @@ use list::IndexList;
 mod work;
 
 // The cut's answer.
-#[derive(Drop)]
+#[derive(Clone, Copy)]
 pub struct CutAnswer {
     pub code: u32,
     pub place: usize,

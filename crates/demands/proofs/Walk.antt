@@ -2,7 +2,7 @@
 -- free side and leaves each corner by the side opposite to the one it came in by visits the whole group; another free side ends it.
 use mathlib.Core.Path.{◌≡◌, refl, sym}
 use mathlib.Core.Logic.{◌⊎◌, inl, inr}
-use Rattle.demands.specs.Joined.{Joined, same, Side, starts, stops, opposite}
+use Rattle.demands.specs.Joined.{Joined, Side, starts, stops, opposite}
 use Rattle.demands.proofs.Equivalence.{joined_carries}
 
 -- the walk from the side s of x comes to y by its side t
@@ -34,11 +34,11 @@ abbrev pub Met : {X : Type 0} → (X → Side → X → Side → Type 0) → X �
 Met M x y = (s : Side) × (t : Side) × M x s y t
 
 module _ {X : Type 0} {M : X → Side → X → Side → Type 0} where
-  ahead_on : {x y z : X} {s t u : Side} → Ahead M y t x s → M y (opposite t) z u → Ahead M z u x s
+  ahead_on : {y : X} {t : Side} {x z : X} {s u : Side} → Ahead M y t x s → M y (opposite t) z u → Ahead M z u x s
   ahead_on (here e f) m = further (rw (← e, ← f) at m) (here refl refl)
   ahead_on (further n a) m = further n (ahead_on a m)
 
-  walk_ahead : {x y : X} {s t : Side} → Walk M x s y t → Ahead M y t x s
+  walk_ahead : {x : X} {s : Side} {y : X} {t : Side} → Walk M x s y t → Ahead M y t x s
   walk_ahead (begin e f) = here (sym e) (sym f)
   walk_ahead (on w m) = ahead_on (walk_ahead w) m
 
@@ -75,9 +75,9 @@ module _ {X : Type 0} {M : X → Side → X → Side → Type 0} (meeting : Meet
       go (on w n) (inr e) = rw e at free
 
   -- from every corner on the walk it goes on to the corner where it ends
-  walk_comes : {x y z : X} {s t u : Side} → Free M y (opposite t) → Ahead M y t x s → Walk M x s z u → Ahead M y t z u
+  walk_comes : {x y : X} {s t : Side} {z : X} {u : Side} → Free M y (opposite t) → Ahead M y t x s → Walk M x s z u → Ahead M y t z u
   walk_comes free a (begin e f) = rw (e, f) a
-  walk_comes {x} {y} {z} {s} {t} {u} free a (on {y = q} {t = r} w m) = go (walk_comes free a w)
+  walk_comes {x} {y} {s} {t} {z} {u} free a (on {y = q} {t = r} w m) = go (walk_comes free a w)
     where
       go : Ahead M y t q r → Ahead M y t z u
       go (here e f) = absurd (free z u (rw (e, f) at m))

@@ -1,0 +1,32 @@
+use Prim.Native.Nat.{◌-◌, ◌≤◌, max}
+use mathlib.Core.Path.{◌≡◌}
+use mathlib.Core.Logic.{⊎_elim}
+use native.Mathlib.Omega.{arith}
+use lib.ListN.{length, drop}
+use Rattle.program.specs.Printed.{vertex_count}
+use Rattle.program.proofs.Counting.{count_more, count_past}
+use Rattle.program.proofs.count.vertex_count.Goals as goal
+
+pub loop-i-init : goal.loop-i-init
+loop-i-init c = (omega arith, omega arith)
+
+pub count_to-m-requires : goal.count_to-m-requires
+count_to-m-requires c = omega arith
+
+pub overflow_add-i : goal.overflow_add-i
+overflow_add-i c = omega arith
+
+pub loop-i-smaller : goal.loop-i-smaller
+loop-i-smaller c = omega arith
+
+pub loop-i-preserved : goal.loop-i-preserved
+loop-i-preserved c =
+    let l = c.args.list.now in
+    let m = count_more l c.loop-i.i c.loop-i-test.true in
+    let e = c.count_to-m.ensures in
+    (omega arith, ⊎_elim (λ w. omega arith) (λ w. omega arith) c.if-n-m.branch)
+
+pub returns : goal.returns
+returns c =
+    let z = count_past c.args.list.now c.loop-i.i c.loop-i-test.false in
+    omega arith

@@ -1,0 +1,21 @@
+-- `line::put_line` meets its contract. What is left to put, over the output as it is, never changes.
+use Prim.Native.Nat.{◌+◌, ◌-◌, ◌*◌, ◌≤◌}
+use mathlib.Core.Path.{◌≡◌, refl, ap, sym, ◌∙◌}
+use native.Mathlib.Omega.{arith}
+use lib.ListN.{length, drop, length-append}
+use Rattle.number.specs.Steps.{put}
+use Rattle.number.proofs.Putting.{put_none}
+use Rattle.program.specs.Printed.{number_text, line}
+use Rattle.program.proofs.Lines.{line_at_place, line_past, line-short, put_on}
+use Rattle.program.proofs.line.put_line.Given as goal
+
+abbrev pub invariant-loop-i : goal.invariant-loop-i
+invariant-loop-i l =
+    (length l.output ≡ length l.initial.output)
+    × (l.i ≤ length l.numbers)
+    × (l.at ≤ 21 * l.i)
+    × (l.at + length (line (drop l.i l.numbers)) ≡ length (line l.numbers))
+    × (put l.at (line (drop l.i l.numbers)) l.output ≡ put 0 (line l.numbers) l.initial.output)
+
+abbrev pub decreases-loop-i : goal.decreases-loop-i
+decreases-loop-i l = length l.numbers - l.i
