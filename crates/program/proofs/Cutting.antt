@@ -57,8 +57,8 @@ accepted_cut l n a b w = go (eqb (check_of l n).code 0) refl
 -- the parts of the buffers nl and mp that hold the new list and the map, of v vertices, of the list l; their lines are short
 pub record Parts (l : List ℤ) (v : ℕ) (nl mp : List ℤ) : Type 0 where
   pub vertices : v ≤ input_entries
-  pub new_list_lem : take (length l) nl ≡ new_list_of l (group_labels l)
-  pub new_map_lem : take v mp ≡ map_of l (group_labels l)
+  pub new_list : take (length l) nl ≡ new_list_of l (group_labels l)
+  pub new_map : take v mp ≡ map_of l (group_labels l)
   pub list_few : length (new_list_of l (group_labels l)) ≤ input_entries
   pub map_few : length (map_of l (group_labels l)) ≤ input_entries
   pub list-short : length (list_line (new_list_of l (group_labels l))) ≤ 13 * input_entries + 3
@@ -110,10 +110,10 @@ module _ (l : List ℤ) (read : Read l) (nl₀ mp₀ : List ℤ) (w₀ : List �
             let few : length (distinct g) ≤ 2147483647 = omega (arith, map_within, map-length l g) in
             record {
               vertices = omega (arith, vertices_are, map_within);
-              new_list_lem =
+              new_list =
                   ap (take (length l)) list_is
                   ∙ take_at (new_list_of l g) (drop (length (new_list_of l g)) nl₀) (length l) (new_list_length l g);
-              new_map_lem =
+              new_map =
                   ap (take a.vertices) map_is ∙ take_at (map_of l g) (drop (length (map_of l g)) mp₀) a.vertices (sym vertices_are);
               list_few = list_within;
               map_few = map_within;

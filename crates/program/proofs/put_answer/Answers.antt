@@ -31,7 +31,7 @@ shape_of-output-then-most-input c = search rules
 pub returns-then-most-input : goal.returns-then-most-input
 returns-then-most-input c =
     let m = c.max_input-most.ensures in let both = same c.put_refusal.result c.args.output.now c.put_refusal.new.output (large_printed c.args.input.now (rw m at c.if-most-input.true))
-    (rw m at (c.put_refusal.ensures.value, c.put_refusal.ensures.output_after)) in record { value = both.0; output_after = both.1 }
+    (rw m at c.put_refusal.ensures.value, rw m at c.put_refusal.ensures.output_after) in record { value = both.0; output_after = both.1 }
 
 pub slice_bounds-read-end : goal.slice_bounds-read-end
 slice_bounds-read-end c = search rules
@@ -62,25 +62,25 @@ pub slice_bounds-list-end : goal.slice_bounds-list-end
 slice_bounds-list-end c =
     let input : List ℕ = c.args.input.now in
     let answered : c.read-read.result ≡ read_of input input_entries = c.read-read.ensures.value in
-    let accepted : (read_of input input_entries).code ≡ 0 = ap (λ (x : ReadAnswer). x.code) (sym answered) ∙ ok in
-    let few : c.read-read.result.entries ≤ input_entries = rw answered (entries_few input accepted) in
+    let accepted : c.read-read.result.code ≡ 0 → (read_of input input_entries).code ≡ 0 = λ ok. ap (λ (x : ReadAnswer). x.code) (sym answered) ∙ ok in
+    let few : c.read-read.result.code ≡ 0 → c.read-read.result.entries ≤ input_entries = λ ok. rw answered (entries_few input (accepted ok)) in
     omega (arith, few c.if-code-ne0.false, c.read-read.auto.list)
 
 pub slice_bounds-put_cut-end : goal.slice_bounds-put_cut-end
 slice_bounds-put_cut-end c =
     let input : List ℕ = c.args.input.now in
     let answered : c.read-read.result ≡ read_of input input_entries = c.read-read.ensures.value in
-    let accepted : (read_of input input_entries).code ≡ 0 = ap (λ (x : ReadAnswer). x.code) (sym answered) ∙ ok in
-    let few : c.read-read.result.entries ≤ input_entries = rw answered (entries_few input accepted) in
+    let accepted : c.read-read.result.code ≡ 0 → (read_of input input_entries).code ≡ 0 = λ ok. ap (λ (x : ReadAnswer). x.code) (sym answered) ∙ ok in
+    let few : c.read-read.result.code ≡ 0 → c.read-read.result.entries ≤ input_entries = λ ok. rw answered (entries_few input (accepted ok)) in
     sym (length-take-le c.read-read.result.entries c.read-read.new.list (omega (arith, few c.if-code-ne0.false, c.read-read.auto.list)))
 
 pub put_cut-requires : goal.put_cut-requires
 put_cut-requires c =
     let input : List ℕ = c.args.input.now in
     let answered : c.read-read.result ≡ read_of input input_entries = c.read-read.ensures.value in
-    let accepted : (read_of input input_entries).code ≡ 0 = ap (λ (x : ReadAnswer). x.code) (sym answered) ∙ ok in
-    let part : take c.read-read.result.entries c.read-read.new.list ≡ entries_in input = ap (λ (x : ReadAnswer). take x.entries c.read-read.new.list) answered
-    ∙ entries_part input accepted (replicate input_entries (pos 0)) c.read-read.new.list refl c.read-read.ensures.list_after in
+    let accepted : c.read-read.result.code ≡ 0 → (read_of input input_entries).code ≡ 0 = λ ok. ap (λ (x : ReadAnswer). x.code) (sym answered) ∙ ok in
+    let part : c.read-read.result.code ≡ 0 → take c.read-read.result.entries c.read-read.new.list ≡ entries_in input = λ ok. ap (λ (x : ReadAnswer). take x.entries c.read-read.new.list) answered
+    ∙ entries_part input (accepted ok) (replicate input_entries (pos 0)) c.read-read.new.list refl c.read-read.ensures.list_after in
     let ok = c.if-code-ne0.false in
     (rw (part ok) (entries_read input (accepted ok)), c.requires)
 
@@ -92,9 +92,9 @@ returns c =
     let small : length c.args.input.now ≤ input_bytes = rw c.max_input-most.ensures at c.if-most-input.false in
     let input : List ℕ = c.args.input.now in
     let answered : c.read-read.result ≡ read_of input input_entries = c.read-read.ensures.value in
-    let accepted : (read_of input input_entries).code ≡ 0 = ap (λ (x : ReadAnswer). x.code) (sym answered) ∙ ok in
-    let part : take c.read-read.result.entries c.read-read.new.list ≡ entries_in input = ap (λ (x : ReadAnswer). take x.entries c.read-read.new.list) answered
-    ∙ entries_part input accepted (replicate input_entries (pos 0)) c.read-read.new.list refl c.read-read.ensures.list_after in
+    let accepted : c.read-read.result.code ≡ 0 → (read_of input input_entries).code ≡ 0 = λ ok. ap (λ (x : ReadAnswer). x.code) (sym answered) ∙ ok in
+    let part : c.read-read.result.code ≡ 0 → take c.read-read.result.entries c.read-read.new.list ≡ entries_in input = λ ok. ap (λ (x : ReadAnswer). take x.entries c.read-read.new.list) answered
+    ∙ entries_part input (accepted ok) (replicate input_entries (pos 0)) c.read-read.new.list refl c.read-read.ensures.list_after in
     let ok = c.if-code-ne0.false in let both = same c.put_cut.result c.args.output.now c.put_cut.new.output
     (read_printed c.args.input.now small (accepted ok) ∙ ap printed_cut (sym (part ok)))
     (c.put_cut.ensures.value, c.put_cut.ensures.output_after) in record { value = both.0; output_after = both.1 }

@@ -53,16 +53,14 @@ shape_of-output-then-code-ne0 c = search rules
 
 pub returns-then-code-ne0 : goal.returns-then-code-ne0
 returns-then-code-ne0 c =
-    let start : tie.Start = c.before.before.before.before.before.before in
-    let l : List ℤ = start.args.list.now in
+    let l : List ℤ = c.args.list.now in
     let n : ℕ = c.vertex_count-n.result in
     let counted : n ≡ vertex_count l = c.vertex_count-n.ensures in
-    let answer : c.cut-answer.result ≡ cut_answer l = answer_is l start.pre.0 entries entries words refl refl refl n counted c.cut-answer.result c.cut-answer.ensures.answer in
-    let cut_made : tie.After-cut = c.before.before.before.before.before.before.before in
-    let numbers : c.numbers-numbers.result ≡ cut_numbers (cut_answer (l cut_made)) = c.numbers-numbers.ensures ∙ ap cut_numbers (answer cut_made) in
-    let at-is : c.put_line-at.result ≡ length (line (cut_numbers (cut_answer (l cut_made)))) = c.put_line-at.ensures.value.0 ∙ ap (λ (xs : List ℕ). length (line xs)) numbers in
-    let output : List ℕ = (start cut_made).args.output.now in
-    let put_is : c.put_line-at.new.output ≡ put 0 (line (cut_numbers (cut_answer (l cut_made)))) output = c.put_line-at.ensures.output_after ∙ ap (λ (xs : List ℕ). put 0 (line xs) output) numbers in
+    let answer : c.cut-answer.result ≡ cut_answer l = answer_is l c.requires.0 entries entries words refl refl refl n counted c.cut-answer.result c.cut-answer.ensures.answer in
+    let numbers : c.numbers-numbers.result ≡ cut_numbers (cut_answer l) = c.numbers-numbers.ensures ∙ ap cut_numbers answer in
+    let at-is : c.put_line-at.result ≡ length (line (cut_numbers (cut_answer l))) = c.put_line-at.ensures.value.0 ∙ ap (λ (xs : List ℕ). length (line xs)) numbers in
+    let output : List ℕ = c.args.output.now in
+    let put_is : c.put_line-at.new.output ≡ put 0 (line (cut_numbers (cut_answer l))) output = c.put_line-at.ensures.output_after ∙ ap (λ (xs : List ℕ). put 0 (line xs) output) numbers in
     let e = refused_printed l (λ z. c.if-code-ne0.true (ap (λ (r : CutAnswer). r.code) answer ∙ z)) in record { value = at-is ∙ ap length (sym e); output_after = put_is ∙ ap (λ (w : List ℕ). put 0 w c.args.output.now) (sym e) }
 
 pub slice_bounds-new_list-end : goal.slice_bounds-new_list-end
@@ -70,72 +68,64 @@ slice_bounds-new_list-end c = search rules
 
 pub slice_bounds-put_list-end : goal.slice_bounds-put_list-end
 slice_bounds-put_list-end c =
-    let start : tie.Start = c.before.before.before.before.before.before in
-    let l : List ℤ = start.args.list.now in
-    let new_list_lem : List ℤ = c.cut-answer.new.new_list in
-    sym (length-take-le (length l) new_list_lem (omega (arith, c.cut-answer.auto.new_list, c.requires.0.few)))
+    let l : List ℤ = c.args.list.now in
+    let new_list : List ℤ = c.cut-answer.new.new_list in
+    sym (length-take-le (length l) new_list (omega (arith, c.cut-answer.auto.new_list, c.requires.0.few)))
 
 pub put_list-end-requires : goal.put_list-end-requires
 put_list-end-requires c =
-    let start : tie.Start = c.before.before.before.before.before.before in
-    let l : List ℤ = start.args.list.now in
-    let new_list_lem : List ℤ = c.cut-answer.new.new_list in
-    let new_map_lem : List ℤ = c.cut-answer.new.map in
+    let l : List ℤ = c.args.list.now in
+    let new_list : List ℤ = c.cut-answer.new.new_list in
+    let new_map : List ℤ = c.cut-answer.new.map in
     let n : ℕ = c.vertex_count-n.result in
     let counted : n ≡ vertex_count l = c.vertex_count-n.ensures in
-    let written : c.cut-answer.result.code ≡ 0 → Parts l c.cut-answer.result.vertices new_list_lem new_map_lem = λ ok. parts l start.pre.0 entries entries words refl refl refl n counted c.cut-answer.result c.cut-answer.ensures.answer
-    new_list_lem new_map_lem c.cut-answer.ensures.filled c.cut-answer.ensures.mapped c.cut-answer.auto.map ok in
-    let cut_made : tie.After-cut = c.before.before.before.before.before.before.before in
-    let answer : c.cut-answer.result ≡ cut_answer l = answer_is l start.pre.0 entries entries words refl refl refl n counted c.cut-answer.result c.cut-answer.ensures.answer in
-    let numbers : c.numbers-numbers.result ≡ cut_numbers (cut_answer (l cut_made)) = c.numbers-numbers.ensures ∙ ap cut_numbers (answer cut_made) in
+    let written : c.cut-answer.result.code ≡ 0 → Parts l c.cut-answer.result.vertices new_list new_map = λ ok. parts l c.requires.0 entries entries words refl refl refl n counted c.cut-answer.result c.cut-answer.ensures.answer
+    new_list new_map c.cut-answer.ensures.filled c.cut-answer.ensures.mapped c.cut-answer.auto.map ok in
+    let answer : c.cut-answer.result ≡ cut_answer l = answer_is l c.requires.0 entries entries words refl refl refl n counted c.cut-answer.result c.cut-answer.ensures.answer in
+    let numbers : c.numbers-numbers.result ≡ cut_numbers (cut_answer l) = c.numbers-numbers.ensures ∙ ap cut_numbers answer in
     let at_small : c.put_line-at.result ≤ 147 = omega (arith, c.put_line-at.ensures.value.1, ap length numbers) in
     let w = written c.if-code-ne0.false in
     rw w.new_list (w.list_few, omega (arith, at_small, c.put_line-at.auto.output, c.requires.1, w.list-short))
 
 pub slice_bounds-map-end : goal.slice_bounds-map-end
 slice_bounds-map-end c =
-    let start : tie.Start = c.before.before.before.before.before.before in
-    let l : List ℤ = start.args.list.now in
-    let new_list_lem : List ℤ = c.cut-answer.new.new_list in
-    let new_map_lem : List ℤ = c.cut-answer.new.map in
+    let l : List ℤ = c.args.list.now in
+    let new_list : List ℤ = c.cut-answer.new.new_list in
+    let new_map : List ℤ = c.cut-answer.new.map in
     let n : ℕ = c.vertex_count-n.result in
     let counted : n ≡ vertex_count l = c.vertex_count-n.ensures in
-    let written : c.cut-answer.result.code ≡ 0 → Parts l c.cut-answer.result.vertices new_list_lem new_map_lem = λ ok. parts l start.pre.0 entries entries words refl refl refl n counted c.cut-answer.result c.cut-answer.ensures.answer
-    new_list_lem new_map_lem c.cut-answer.ensures.filled c.cut-answer.ensures.mapped c.cut-answer.auto.map ok in
+    let written : c.cut-answer.result.code ≡ 0 → Parts l c.cut-answer.result.vertices new_list new_map = λ ok. parts l c.requires.0 entries entries words refl refl refl n counted c.cut-answer.result c.cut-answer.ensures.answer
+    new_list new_map c.cut-answer.ensures.filled c.cut-answer.ensures.mapped c.cut-answer.auto.map ok in
     let w = written c.if-code-ne0.false in
     omega (arith, w.vertices, c.cut-answer.auto.map)
 
 pub slice_bounds-put_list-end-2 : goal.slice_bounds-put_list-end-2
 slice_bounds-put_list-end-2 c =
-    let start : tie.Start = c.before.before.before.before.before.before in
-    let l : List ℤ = start.args.list.now in
-    let new_list_lem : List ℤ = c.cut-answer.new.new_list in
-    let new_map_lem : List ℤ = c.cut-answer.new.map in
+    let l : List ℤ = c.args.list.now in
+    let new_list : List ℤ = c.cut-answer.new.new_list in
+    let new_map : List ℤ = c.cut-answer.new.map in
     let n : ℕ = c.vertex_count-n.result in
     let counted : n ≡ vertex_count l = c.vertex_count-n.ensures in
-    let written : c.cut-answer.result.code ≡ 0 → Parts l c.cut-answer.result.vertices new_list_lem new_map_lem = λ ok. parts l start.pre.0 entries entries words refl refl refl n counted c.cut-answer.result c.cut-answer.ensures.answer
-    new_list_lem new_map_lem c.cut-answer.ensures.filled c.cut-answer.ensures.mapped c.cut-answer.auto.map ok in
+    let written : c.cut-answer.result.code ≡ 0 → Parts l c.cut-answer.result.vertices new_list new_map = λ ok. parts l c.requires.0 entries entries words refl refl refl n counted c.cut-answer.result c.cut-answer.ensures.answer
+    new_list new_map c.cut-answer.ensures.filled c.cut-answer.ensures.mapped c.cut-answer.auto.map ok in
     let w = written c.if-code-ne0.false in
-    sym (length-take-le c.cut-answer.result.vertices new_map_lem (omega (arith, w.vertices, c.cut-answer.auto.map)))
+    sym (length-take-le c.cut-answer.result.vertices new_map (omega (arith, w.vertices, c.cut-answer.auto.map)))
 
 pub put_list-requires : goal.put_list-requires
 put_list-requires c =
-    let start : tie.Start = c.before.before.before.before.before.before in
-    let l : List ℤ = start.args.list.now in
-    let new_list_lem : List ℤ = c.cut-answer.new.new_list in
-    let new_map_lem : List ℤ = c.cut-answer.new.map in
+    let l : List ℤ = c.args.list.now in
+    let new_list : List ℤ = c.cut-answer.new.new_list in
+    let new_map : List ℤ = c.cut-answer.new.map in
     let n : ℕ = c.vertex_count-n.result in
     let counted : n ≡ vertex_count l = c.vertex_count-n.ensures in
-    let written : c.cut-answer.result.code ≡ 0 → Parts l c.cut-answer.result.vertices new_list_lem new_map_lem = λ ok. parts l start.pre.0 entries entries words refl refl refl n counted c.cut-answer.result c.cut-answer.ensures.answer
-    new_list_lem new_map_lem c.cut-answer.ensures.filled c.cut-answer.ensures.mapped c.cut-answer.auto.map ok in
-    let cut_made : tie.After-cut = c.before.before.before.before.before.before.before in
-    let answer : c.cut-answer.result ≡ cut_answer l = answer_is l start.pre.0 entries entries words refl refl refl n counted c.cut-answer.result c.cut-answer.ensures.answer in
-    let numbers : c.numbers-numbers.result ≡ cut_numbers (cut_answer (l cut_made)) = c.numbers-numbers.ensures ∙ ap cut_numbers (answer cut_made) in
+    let written : c.cut-answer.result.code ≡ 0 → Parts l c.cut-answer.result.vertices new_list new_map = λ ok. parts l c.requires.0 entries entries words refl refl refl n counted c.cut-answer.result c.cut-answer.ensures.answer
+    new_list new_map c.cut-answer.ensures.filled c.cut-answer.ensures.mapped c.cut-answer.auto.map ok in
+    let answer : c.cut-answer.result ≡ cut_answer l = answer_is l c.requires.0 entries entries words refl refl refl n counted c.cut-answer.result c.cut-answer.ensures.answer in
+    let numbers : c.numbers-numbers.result ≡ cut_numbers (cut_answer l) = c.numbers-numbers.ensures ∙ ap cut_numbers answer in
     let at_small : c.put_line-at.result ≤ 147 = omega (arith, c.put_line-at.ensures.value.1, ap length numbers) in
-    let line-put : tie.After-put-line = c.before.before.before.before.before.before in
-    let at : ℕ = line-put.put-line.result in
-    let list : List ℤ = l (cut_made line-put) in
-    let new_list_is : take (length list) (new_list_lem (cut_made line-put)) ≡ new_list_of list (group_labels list) = (written (cut_made line-put) c.if-code-ne0.false).new_list in
+    let at : ℕ = c.put_line-at.result in
+    let list : List ℤ = l in
+    let new_list_is : take (length list) new_list ≡ new_list_of list (group_labels list) = (written c.if-code-ne0.false).new_list in
     let behind-is : c.put_list-end.result ≡ at + length (list_line (new_list_of list (group_labels list))) = c.put_list-end.ensures.value ∙ ap (λ (x : List ℤ). at + length (list_line x)) new_list_is in
     let w = written c.if-code-ne0.false in
     rw w.new_map
@@ -146,27 +136,24 @@ shape_of-output c = search rules
 
 pub returns : goal.returns
 returns c =
-    let start : tie.Start = c.before.before.before.before.before.before in
-    let l : List ℤ = start.args.list.now in
-    let new_list_lem : List ℤ = c.cut-answer.new.new_list in
-    let new_map_lem : List ℤ = c.cut-answer.new.map in
+    let l : List ℤ = c.args.list.now in
+    let new_list : List ℤ = c.cut-answer.new.new_list in
+    let new_map : List ℤ = c.cut-answer.new.map in
     let n : ℕ = c.vertex_count-n.result in
     let counted : n ≡ vertex_count l = c.vertex_count-n.ensures in
-    let written : c.cut-answer.result.code ≡ 0 → Parts l c.cut-answer.result.vertices new_list_lem new_map_lem = λ ok. parts l start.pre.0 entries entries words refl refl refl n counted c.cut-answer.result c.cut-answer.ensures.answer
-    new_list_lem new_map_lem c.cut-answer.ensures.filled c.cut-answer.ensures.mapped c.cut-answer.auto.map ok in
-    let answer : c.cut-answer.result ≡ cut_answer l = answer_is l start.pre.0 entries entries words refl refl refl n counted c.cut-answer.result c.cut-answer.ensures.answer in
-    let cut_made : tie.After-cut = c.before.before.before.before.before.before.before in
-    let numbers : c.numbers-numbers.result ≡ cut_numbers (cut_answer (l cut_made)) = c.numbers-numbers.ensures ∙ ap cut_numbers (answer cut_made) in
+    let written : c.cut-answer.result.code ≡ 0 → Parts l c.cut-answer.result.vertices new_list new_map = λ ok. parts l c.requires.0 entries entries words refl refl refl n counted c.cut-answer.result c.cut-answer.ensures.answer
+    new_list new_map c.cut-answer.ensures.filled c.cut-answer.ensures.mapped c.cut-answer.auto.map ok in
+    let answer : c.cut-answer.result ≡ cut_answer l = answer_is l c.requires.0 entries entries words refl refl refl n counted c.cut-answer.result c.cut-answer.ensures.answer in
+    let numbers : c.numbers-numbers.result ≡ cut_numbers (cut_answer l) = c.numbers-numbers.ensures ∙ ap cut_numbers answer in
     let at_small : c.put_line-at.result ≤ 147 = omega (arith, c.put_line-at.ensures.value.1, ap length numbers) in
-    let line-put : tie.After-put-line = c.before.before.before.before.before.before in
-    let at : ℕ = line-put.put-line.result in
-    let list : List ℤ = l (cut_made line-put) in
-    let new_list_is : take (length list) (new_list_lem (cut_made line-put)) ≡ new_list_of list (group_labels list) = (written (cut_made line-put) c.if-code-ne0.false).new_list in
+    let at : ℕ = c.put_line-at.result in
+    let list : List ℤ = l in
+    let new_list_is : take (length list) new_list ≡ new_list_of list (group_labels list) = (written c.if-code-ne0.false).new_list in
     let behind-is : c.put_list-end.result ≡ at + length (list_line (new_list_of list (group_labels list))) = c.put_list-end.ensures.value ∙ ap (λ (x : List ℤ). at + length (list_line x)) new_list_is in
-    let at-is : c.put_line-at.result ≡ length (line (cut_numbers (cut_answer (l cut_made)))) = c.put_line-at.ensures.value.0 ∙ ap (λ (xs : List ℕ). length (line xs)) numbers in
-    let output : List ℕ = (start cut_made).args.output.now in
-    let put_is : c.put_line-at.new.output ≡ put 0 (line (cut_numbers (cut_answer (l cut_made)))) output = c.put_line-at.ensures.output_after ∙ ap (λ (xs : List ℕ). put 0 (line xs) output) numbers in
-    let list-put-is : c.put_list-end.new.output ≡ put at (list_line (new_list_of list (group_labels list))) line-put.put-line.last.1.0 = c.put_list-end.ensures.output_after ∙ ap (λ (x : List ℤ). put at (list_line x) line-put.put-line.last.1.0) new_list_is in
+    let at-is : c.put_line-at.result ≡ length (line (cut_numbers (cut_answer l))) = c.put_line-at.ensures.value.0 ∙ ap (λ (xs : List ℕ). length (line xs)) numbers in
+    let output : List ℕ = c.args.output.now in
+    let put_is : c.put_line-at.new.output ≡ put 0 (line (cut_numbers (cut_answer l))) output = c.put_line-at.ensures.output_after ∙ ap (λ (xs : List ℕ). put 0 (line xs) output) numbers in
+    let list-put-is : c.put_list-end.new.output ≡ put at (list_line (new_list_of list (group_labels list))) c.put_line-at.new.output = c.put_list-end.ensures.output_after ∙ ap (λ (x : List ℤ). put at (list_line x) c.put_line-at.new.output) new_list_is in
     let ok = c.if-code-ne0.false in
     let w = written ok in
     let z = ap (λ (x : CutAnswer). x.code) (sym answer) ∙ ok in

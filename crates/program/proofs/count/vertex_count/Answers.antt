@@ -1,11 +1,7 @@
-use Prim.Native.Nat.{◌-◌, ◌≤◌, max}
-use mathlib.Core.Path.{◌≡◌}
-use mathlib.Core.Logic.{⊎_elim}
 use native.Mathlib.Omega.{arith}
-use lib.ListN.{length, drop}
-use Rattle.program.specs.Printed.{vertex_count}
 use Rattle.program.proofs.Counting.{count_more, count_past}
 use Rattle.program.proofs.count.vertex_count.Goals as goal
+use Rattle.program.proofs.count.vertex_count.Goals.{then-n-m, else-n-m}
 
 pub loop-i-init : goal.loop-i-init
 loop-i-init c = (omega arith, omega arith)
@@ -24,7 +20,7 @@ loop-i-preserved c =
     let l = c.args.list.now in
     let m = count_more l c.loop-i.i c.loop-i-test.true in
     let e = c.count_to-m.ensures in
-    (omega arith, ⊎_elim (λ w. omega arith) (λ w. omega arith) c.if-n-m.branch)
+    (omega arith, elim c.if-n-m.branch [ then-n-m w ↦ omega arith | else-n-m w ↦ omega arith ])
 
 pub returns : goal.returns
 returns c =

@@ -1,11 +1,8 @@
 -- `count::vertex_count` meets its contract: the greater of what is counted and of what is left to count never changes.
 use Prim.Native.Nat.{◌-◌, ◌≤◌, max}
 use mathlib.Core.Path.{◌≡◌}
-use mathlib.Core.Logic.{⊎_elim}
-use native.Mathlib.Omega.{arith}
 use lib.ListN.{length, drop}
 use Rattle.program.specs.Printed.{vertex_count}
-use Rattle.program.proofs.Counting.{count_more, count_past}
 use Rattle.program.proofs.count.vertex_count.Given as goal
 
 abbrev pub invariant-loop-i : goal.invariant-loop-i

@@ -1,8 +1,7 @@
-use Prim.Native.Nat.{◌+◌, ◌-◌, ◌*◌, ◌≤◌}
-use mathlib.Core.Path.{◌≡◌, refl, ap, sym, ◌∙◌}
+use Prim.Native.Nat.{◌+◌}
+use mathlib.Core.Path.{refl, ap, sym, ◌∙◌}
 use native.Mathlib.Omega.{arith}
 use lib.ListN.{length, drop, length-append}
-use Rattle.number.specs.Steps.{put}
 use Rattle.number.proofs.Putting.{put_none}
 use Rattle.program.specs.Printed.{number_text, line}
 use Rattle.program.proofs.Lines.{line_at_place, line_past, line-short, put_on}
@@ -29,8 +28,8 @@ loop-i-preserved c =
     let s = line-short xs (λ j. (c.shared_slice_known-1.given j).fits) in (
       c.put_number-at.auto.output ∙ c.loop-i.invariant.0,
       omega arith,
-      omega (arith, (c.put_number-at.ensures.value, c.put_number-at.ensures.output_after)),
-      omega (arith, (c.put_number-at.ensures.value, c.put_number-at.ensures.output_after)),
+      omega (arith, c.put_number-at.ensures.value),
+      omega (arith, c.put_number-at.ensures.value),
       put_on c.loop-i.at c.put_number-at.result (number_text (drop c.loop-i.i xs)) (line (drop (c.loop-i.i + 1) xs)) (line (drop c.loop-i.i xs)) c.loop-i.output c.put_number-at.new.output
           e (omega (arith, c.requires)) c.put_number-at.ensures.value.0 c.put_number-at.ensures.output_after
           ∙ c.loop-i.invariant.4,

@@ -1,12 +1,9 @@
 -- `line::put_line` meets its contract. What is left to put, over the output as it is, never changes.
 use Prim.Native.Nat.{◌+◌, ◌-◌, ◌*◌, ◌≤◌}
-use mathlib.Core.Path.{◌≡◌, refl, ap, sym, ◌∙◌}
-use native.Mathlib.Omega.{arith}
-use lib.ListN.{length, drop, length-append}
+use mathlib.Core.Path.{◌≡◌}
+use lib.ListN.{length, drop}
 use Rattle.number.specs.Steps.{put}
-use Rattle.number.proofs.Putting.{put_none}
-use Rattle.program.specs.Printed.{number_text, line}
-use Rattle.program.proofs.Lines.{line_at_place, line_past, line-short, put_on}
+use Rattle.program.specs.Printed.{line}
 use Rattle.program.proofs.line.put_line.Given as goal
 
 abbrev pub invariant-loop-i : goal.invariant-loop-i
