@@ -5,7 +5,7 @@
 ghost use Rattle.std.specs.Prelude.{◌≡◌, ◌+◌, ◌<◌, ◌≤◌, ◌^◌, length};
 ghost use Rattle.list.specs.Limits.{max_entries};
 
-use libc::STDOUT_FILENO;
+use std::io;
 
 const LIMIT: usize = list::IndexList::MAX_ENTRIES;
 
@@ -17,36 +17,36 @@ const BODIES: [i32; 32] = [
     5, 4, -1,
 ];
 
-fn print_number(n: usize, end: &[u8]) {
-    io::print_decimal(STDOUT_FILENO, n as u64);
-    io::write_all(STDOUT_FILENO, end);
+fn print_number(rt: &impl Print, n: usize, end: &[u8]) -> io::Result<()> {
+    print!(rt; "{n}")?;
+    rt.write_all(end)
 }
 
-fn print_answer(a: cut::CutAnswer) {
-    print_number(a.code as usize, b" ");
-    print_number(a.place, b" ");
-    print_number(a.faces, b" ");
-    print_number(a.corners, b" ");
-    print_number(a.vertices, b" ");
-    print_number(a.singular_edges, b" ");
-    print_number(a.singular_vertices, b"\n");
+fn print_answer(rt: &impl Print, a: cut::CutAnswer) -> io::Result<()> {
+    print_number(rt, a.code as usize, b" ")?;
+    print_number(rt, a.place, b" ")?;
+    print_number(rt, a.faces, b" ")?;
+    print_number(rt, a.corners, b" ")?;
+    print_number(rt, a.vertices, b" ")?;
+    print_number(rt, a.singular_edges, b" ")?;
+    print_number(rt, a.singular_vertices, b"\n")
 }
 
-fn print_list(list: &[i32]) {
+fn print_list(rt: &impl Print, list: &[i32]) -> io::Result<()> {
     let mut out = [0u8; 256];
     let answer = text::write(list, &mut out);
     let n = answer.length;
     if n <= 256 {
-        io::write_all(STDOUT_FILENO, &out[..n]);
+        rt.write_all(&out[..n])?;
     }
-    io::write_all(STDOUT_FILENO, b"\n");
+    rt.write_all(b"\n")
 }
 
-fn print_classes(classes: &[u8]) {
+fn print_classes(rt: &impl Print, classes: &[u8]) -> io::Result<()> {
     for v in 0..classes.len() {
-        print_number(classes[v] as usize, b" ");
+        print_number(rt, classes[v] as usize, b" ")?;
     }
-    io::write_all(STDOUT_FILENO, b"\n");
+    rt.write_all(b"\n")
 }
 
 // How many words are 7.
@@ -61,37 +61,38 @@ fn count_sevens(work: &[u32]) -> usize {
 }
 
 // The first entries of a list, with one more.
-fn print_first(list: &[i32], n: usize) {
+fn print_first(rt: &impl Print, list: &[i32], n: usize) -> io::Result<()> {
     if n < list.len() {
         let end = n + 1;
-        print_list(&list[..end]);
+        print_list(rt, &list[..end])?;
     }
+    Ok(())
 }
 
-fn show_cut(list: &[i32], n: usize) {
+fn show_cut(rt: &impl Print, list: &[i32], n: usize) -> io::Result<()> {
     let mut new_list = [7i32; 40];
     let mut map = [7i32; 40];
     let mut work = [7u32; 160];
     let answer = cut::cut(list, n, &mut new_list, &mut map, &mut work);
-    print_answer(answer);
-    print_first(&new_list, list.len());
-    print_first(&map, answer.vertices);
-    print_number(count_sevens(&work), b"\n");
+    print_answer(rt, answer)?;
+    print_first(rt, &new_list, list.len())?;
+    print_first(rt, &map, answer.vertices)?;
+    print_number(rt, count_sevens(&work), b"\n")
 }
 
-fn show_classes(list: &[i32], n: usize) {
+fn show_classes(rt: &impl Print, list: &[i32], n: usize) -> io::Result<()> {
     let mut classes = [7u8; 12];
     let mut work = [7u32; 160];
     let answer = cut::classes(list, n, &mut classes, &mut work);
-    print_number(answer.code as usize, b" ");
-    print_number(answer.place, b" ");
-    print_number(count_sevens(&work), b"\n");
-    print_classes(&classes);
+    print_number(rt, answer.code as usize, b" ")?;
+    print_number(rt, answer.place, b" ")?;
+    print_number(rt, count_sevens(&work), b"\n")?;
+    print_classes(rt, &classes)
 }
 
-fn show(list: &[i32], n: usize) {
-    show_cut(list, n);
-    show_classes(list, n);
+fn show(rt: &impl Print, list: &[i32], n: usize) -> io::Result<()> {
+    show_cut(rt, list, n)?;
+    show_classes(rt, list, n)
 }
 
 // A face with its end at the start of a part of a list.
@@ -128,46 +129,53 @@ fn fill_fan(list: &mut [i32])
 }
 
 // Cuts a list of 65,536 entries, and prints the seven numbers, the first entries and how many words of work were kept.
-fn show_large(list: &[i32], n: usize, new_list: &mut [i32], map: &mut [i32], work: &mut [u32]) {
-    print_answer(cut::cut(list, n, new_list, map, work));
-    print_first(new_list, 20);
-    print_first(map, 20);
-    print_number(count_sevens(work), b"\n");
+fn show_large(
+    rt: &impl Print,
+    list: &[i32],
+    n: usize,
+    new_list: &mut [i32],
+    map: &mut [i32],
+    work: &mut [u32],
+) -> io::Result<()> {
+    print_answer(rt, cut::cut(list, n, new_list, map, work))?;
+    print_first(rt, new_list, 20)?;
+    print_first(rt, map, 20)?;
+    print_number(rt, count_sevens(work), b"\n")
 }
 
-fn large() {
+fn large(rt: &impl Print) -> io::Result<()> {
     let mut list = [-1i32; LIMIT];
     let mut new_list = [7i32; LIMIT];
     let mut map = [7i32; LIMIT];
     let mut work = [7u32; 3 * LIMIT];
     fill_book(&mut list);
-    show_large(&list, 16386, &mut new_list, &mut map, &mut work);
+    show_large(rt, &list, 16386, &mut new_list, &mut map, &mut work)?;
     fill_fan(&mut list);
-    show_large(&list, 16392, &mut new_list, &mut map, &mut work);
+    show_large(rt, &list, 16392, &mut new_list, &mut map, &mut work)
 }
 
-fn accepted() {
-    show(&[], 0);
-    show(&[7, 3, 9, -1], 10);
-    show(&[0, 1, 2, -1, 2, 1, 3, -1], 4);
-    show(&[0, 1, 2, -1, 1, 2, 3], 4);
-    show(&[0, 1, 2, -1, 0, 3, 4, -1], 5);
-    show(&[0, 1, 2, -1, 0, 1, 3, -1, 0, 1, 4, -1], 5);
-    show(&BODIES, 6);
-    show(&[0, 1, 2, -1, 0, 2, 1, -1], 3);
+fn accepted(rt: &impl Print) -> io::Result<()> {
+    show(rt, &[], 0)?;
+    show(rt, &[7, 3, 9, -1], 10)?;
+    show(rt, &[0, 1, 2, -1, 2, 1, 3, -1], 4)?;
+    show(rt, &[0, 1, 2, -1, 1, 2, 3], 4)?;
+    show(rt, &[0, 1, 2, -1, 0, 3, 4, -1], 5)?;
+    show(rt, &[0, 1, 2, -1, 0, 1, 3, -1, 0, 1, 4, -1], 5)?;
+    show(rt, &BODIES, 6)?;
+    show(rt, &[0, 1, 2, -1, 0, 2, 1, -1], 3)
 }
 
-fn refused() {
-    show(&[0, 1, -1], 2);
-    show(&[-1], 0);
-    show(&[0, 1, 2, -1, -1], 3);
-    show(&[0, 1, 5, -1], 5);
-    show(&[0, 1, 5, -1], 6);
-    show(&[0, 0, -2], 3);
+fn refused(rt: &impl Print) -> io::Result<()> {
+    show(rt, &[0, 1, -1], 2)?;
+    show(rt, &[-1], 0)?;
+    show(rt, &[0, 1, 2, -1, -1], 3)?;
+    show(rt, &[0, 1, 5, -1], 5)?;
+    show(rt, &[0, 1, 5, -1], 6)?;
+    show(rt, &[0, 0, -2], 3)
 }
 
-fn main() {
-    accepted();
-    refused();
-    large();
+fn main(rt: HostRuntime) -> io::Result<()> {
+    accepted(&rt)?;
+    refused(&rt)?;
+    large(&rt)
 }

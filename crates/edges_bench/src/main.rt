@@ -5,7 +5,7 @@
 ghost use Rattle.std.specs.Prelude.{◌≤◌, length};
 ghost use Rattle.list.specs.Limits.{max_entries};
 
-use libc::STDOUT_FILENO;
+use std::io;
 
 const LIMIT: usize = list::IndexList::MAX_ENTRIES;
 
@@ -25,9 +25,9 @@ pub struct Made {
     pub singular: usize,
 }
 
-fn print_number(n: u64, end: &[u8]) {
-    io::print_decimal(STDOUT_FILENO, n);
-    io::write_all(STDOUT_FILENO, end);
+fn print_number(rt: &impl Print, n: u64, end: &[u8]) -> io::Result<()> {
+    print!(rt; "{n}")?;
+    rt.write_all(end)
 }
 
 // The table of a list that the check accepts, in the first words of work; 9 where work is too short.
@@ -58,35 +58,35 @@ fn make(list: &[i32], n: usize, work: &mut [u32]) -> Made {
     }
 }
 
-fn print_made(made: Made) {
-    print_number(made.code as u64, b" ");
-    print_number(made.corners as u64, b" ");
-    print_number(made.singular as u64, b":");
+fn print_made(rt: &impl Print, made: Made) -> io::Result<()> {
+    print_number(rt, made.code as u64, b" ")?;
+    print_number(rt, made.corners as u64, b" ")?;
+    print_number(rt, made.singular as u64, b":")
 }
 
-fn print_words(work: &[u32]) {
+fn print_words(rt: &impl Print, work: &[u32]) -> io::Result<()> {
     let mut i: usize = 0;
     while i < work.len() {
-        io::write_all(STDOUT_FILENO, b" ");
-        io::print_decimal(STDOUT_FILENO, work[i] as u64);
+        rt.write_all(b" ")?;
+        print!(rt; "{}", work[i])?;
         i += 1;
     }
-    io::write_all(STDOUT_FILENO, b"\n");
+    rt.write_all(b"\n")
 }
 
 // The words of a small table, with two words past the longest that nothing writes.
-fn show(list: &[i32], n: usize) {
+fn show(rt: &impl Print, list: &[i32], n: usize) -> io::Result<()> {
     let mut work = [7u32; 98];
     let made = make(list, n, &mut work);
-    print_made(made);
-    print_words(&work);
+    print_made(rt, made)?;
+    print_words(rt, &work)
 }
 
-fn ask(list: &[i32], n: usize, a: i32, b: i32) {
+fn ask(rt: &impl Print, list: &[i32], n: usize, a: i32, b: i32) -> io::Result<()> {
     let answer = edges::faces_on(list, n, a, b);
-    print_number(answer.code as u64, b" ");
-    print_number(answer.place as u64, b" ");
-    print_number(answer.faces as u64, b"\n");
+    print_number(rt, answer.code as u64, b" ")?;
+    print_number(rt, answer.place as u64, b" ")?;
+    print_number(rt, answer.faces as u64, b"\n")
 }
 
 // The first vertex of a face: all have vertex 0 in a fan.
@@ -122,54 +122,54 @@ fn sum(work: &[u32], from: usize, to: usize) -> u64
     let mut total: u64 = 0;
     let mut i = from;
     while i < to {
-        total = std::num::wrapping_add_u64(total, work[i] as u64);
+        total = total.wrapping_add(work[i] as u64);
         i += 1;
     }
     total
 }
 
 // A list at the limit: the four sums of its table's blocks.
-fn show_long(step: usize, fan: bool, n: usize)
+fn show_long(rt: &impl Print, step: usize, fan: bool, n: usize) -> io::Result<()>
     requires { step ≤ 3 }
 {
     let mut list = [-1i32; LIMIT];
     fill(&mut list[..], step, fan);
     let mut work = [7u32; 4 * CORNERS];
     let made = make(&list, n, &mut work);
-    print_made(made);
-    print_number(sum(&work, 0, CORNERS), b" ");
-    print_number(sum(&work, CORNERS, 2 * CORNERS), b" ");
-    print_number(sum(&work, 2 * CORNERS, 3 * CORNERS), b" ");
-    print_number(sum(&work, 3 * CORNERS, 4 * CORNERS), b"\n");
+    print_made(rt, made)?;
+    print_number(rt, sum(&work, 0, CORNERS), b" ")?;
+    print_number(rt, sum(&work, CORNERS, 2 * CORNERS), b" ")?;
+    print_number(rt, sum(&work, 2 * CORNERS, 3 * CORNERS), b" ")?;
+    print_number(rt, sum(&work, 3 * CORNERS, 4 * CORNERS), b"\n")
 }
 
-fn tables() {
-    show(&[], 0);
-    show(&[7, 3, 9, -1], 10);
-    show(&[0, 1, 2, -1, 2, 1, 3, -1], 4);
-    show(&[0, 1, 2, -1, 1, 2, 3], 4);
-    show(&[0, 1, 2, -1, 0, 3, 4, -1], 5);
-    show(&[0, 1, 2, -1, 0, 1, 3, -1, 0, 1, 4, -1], 5);
-    show(&BODIES, 6);
-    show(&[0, 1, 2, -1, 0, 2, 1, -1], 3);
-    show(&[0, 1, -1], 2);
+fn tables(rt: &impl Print) -> io::Result<()> {
+    show(rt, &[], 0)?;
+    show(rt, &[7, 3, 9, -1], 10)?;
+    show(rt, &[0, 1, 2, -1, 2, 1, 3, -1], 4)?;
+    show(rt, &[0, 1, 2, -1, 1, 2, 3], 4)?;
+    show(rt, &[0, 1, 2, -1, 0, 3, 4, -1], 5)?;
+    show(rt, &[0, 1, 2, -1, 0, 1, 3, -1, 0, 1, 4, -1], 5)?;
+    show(rt, &BODIES, 6)?;
+    show(rt, &[0, 1, 2, -1, 0, 2, 1, -1], 3)?;
+    show(rt, &[0, 1, -1], 2)
 }
 
-fn questions() {
+fn questions(rt: &impl Print) -> io::Result<()> {
     let bodies = BODIES;
-    ask(&bodies, 6, 0, 1);
-    ask(&bodies, 6, 2, 0);
-    ask(&bodies, 6, 2, 4);
-    ask(&bodies, 6, 3, 3);
-    ask(&bodies, 6, -1, 0);
-    ask(&bodies, 6, 0, 6);
-    ask(&[0, 1, 2, -1, 0, 3, 0, -1], 4, 1, 1);
+    ask(rt, &bodies, 6, 0, 1)?;
+    ask(rt, &bodies, 6, 2, 0)?;
+    ask(rt, &bodies, 6, 2, 4)?;
+    ask(rt, &bodies, 6, 3, 3)?;
+    ask(rt, &bodies, 6, -1, 0)?;
+    ask(rt, &bodies, 6, 0, 6)?;
+    ask(rt, &[0, 1, 2, -1, 0, 3, 0, -1], 4, 1, 1)
 }
 
-fn main() {
-    tables();
-    questions();
-    show_long(1, false, 16386);
-    show_long(3, false, 49156);
-    show_long(3, true, list::IndexList::MAX_VERTICES);
+fn main(rt: HostRuntime) -> io::Result<()> {
+    tables(&rt)?;
+    questions(&rt)?;
+    show_long(&rt, 1, false, 16386)?;
+    show_long(&rt, 3, false, 49156)?;
+    show_long(&rt, 3, true, list::IndexList::MAX_VERTICES)
 }
