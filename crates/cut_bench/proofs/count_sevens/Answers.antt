@@ -1,9 +1,6 @@
-use Prim.Native.Nat.{◌-◌, ◌≤◌}
-use mathlib.Core.Path.{◌≡◌, refl}
-use mathlib.Core.Logic.{⊎_elim}
-use lib.ListN.{length}
+use mathlib.Core.Path.{refl}
+use Rattle.cut_bench.proofs.count_sevens.Goals.{then-work-i-eq7, else-work-i-eq7}
 use native.Mathlib.Omega.{arith}
-use borrow.Author.Rules.{rules}
 use Rattle.cut_bench.proofs.count_sevens.Goals as goal
 
 pub loop-i-init : goal.loop-i-init
@@ -25,7 +22,5 @@ pub loop-i-smaller : goal.loop-i-smaller
 loop-i-smaller c = omega arith
 
 pub loop-i-preserved : goal.loop-i-preserved
-loop-i-preserved c = (omega arith, refl, ⊎_elim (λ w. omega arith) (λ w. omega arith) c.if-work-i-eq7.branch)
-
-pub returns : goal.returns
-returns c = search rules
+loop-i-preserved c =
+    (omega arith, refl, elim c.if-work-i-eq7.branch [ then-work-i-eq7 w ↦ omega arith | else-work-i-eq7 w ↦ omega arith ])

@@ -1,10 +1,7 @@
 -- `cut_bench::count_sevens` is safe: no more words are counted than are passed.
 use Prim.Native.Nat.{◌-◌, ◌≤◌}
-use mathlib.Core.Path.{◌≡◌, refl}
-use mathlib.Core.Logic.{⊎_elim}
+use mathlib.Core.Path.{◌≡◌}
 use lib.ListN.{length}
-use native.Mathlib.Omega.{arith}
-use borrow.Author.Rules.{rules}
 use Rattle.cut_bench.proofs.count_sevens.Given as goal
 
 abbrev pub invariant-loop-i : goal.invariant-loop-i

@@ -1,9 +1,7 @@
 -- `cut_bench::fill_fan` meets its contract: each face lies within the list.
 use Prim.Native.Nat.{◌-◌, ◌≤◌}
-use mathlib.Core.Path.{◌≡◌, refl}
+use mathlib.Core.Path.{◌≡◌}
 use lib.ListN.{length}
-use native.Mathlib.Omega.{arith}
-use borrow.Author.Rules.{rules}
 use Rattle.cut_bench.proofs.fill_fan.Given as goal
 
 abbrev pub invariant-loop-k : goal.invariant-loop-k

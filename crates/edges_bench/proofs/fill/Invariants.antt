@@ -1,5 +1,5 @@
 -- `fill` meets its contract: a vertex is at most three times the number of faces before it.
-use Rattle.std.proofs.Common.{◌≡◌, ◌-◌, ◌*◌, ◌/◌, ◌≤◌, length, arith, length-set, rules}
+use Rattle.std.proofs.Common.{◌≡◌, ◌-◌, ◌*◌, ◌/◌, ◌≤◌, length}
 use Rattle.edges_bench.proofs.fill.Given as goal
 
 abbrev pub invariant-loop-k : goal.invariant-loop-k

@@ -1,4 +1,4 @@
-use Rattle.std.proofs.Common.{◌-◌, arith, rules}
+use Rattle.std.proofs.Common.{rules}
 use Rattle.edges_bench.proofs.sum.Goals as goal
 
 pub loop-i-init : goal.loop-i-init

@@ -1,5 +1,5 @@
 -- `sum` meets its contract: each word read is one of the words.
-use Rattle.std.proofs.Common.{◌-◌, arith, rules}
+use Rattle.std.proofs.Common.{◌-◌}
 use Rattle.edges_bench.proofs.sum.Given as goal
 
 abbrev pub invariant-loop-i : goal.invariant-loop-i
