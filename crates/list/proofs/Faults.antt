@@ -37,6 +37,9 @@ module _ (n : ℕ) (r : List ℤ) where
       fault_none h =
           rw (le-ltb (first_outside n r) (length r) inside, le-ltb (length r) 3 long, le-ltb (first_repeat (vertices r)) (length r) h)
 
+-- each outcome of the tests
+pub ruleset fault_cases = (fault_outside, fault_short, fault_repeated, fault_none)
+
 num_below : (n m : ℕ) (z : ℤ) → n ≤ m → 0 < m → outside n z ≡ false → num z < m
 num_below n m (pos k) h p e = omega (arith, leb-false n k e)
 num_below n m (negsuc k) h p e = p

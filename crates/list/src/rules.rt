@@ -109,6 +109,7 @@ pub fn first_repeat(face: &[i32], flags: &mut [u8]) -> usize
 }
 
 // The face's first fault: an entry outside, then too few entries, then a repeat. The flags are 0 before and afterwards.
+#[tactic(auto, using(crate::proofs::Faults::fault_cases))]
 pub fn face_fault(face: &[i32], n: usize, flags: &mut [u8]) -> FaceFault
     requires { NoEnd face.now × Flags n flags.old }
     ensures { (result ≡ face_fault n face.now) × (flags.new ≡ flags.old) }

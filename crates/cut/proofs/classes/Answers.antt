@@ -13,11 +13,14 @@ check-checked-requires c = search rules
 
 pub returns-then-code-ne0 : goal.returns-then-code-ne0
 returns-then-code-ne0 c =
-    let both = classes-check c.args.list.now c.args.n c.args.classes.now c.args.work.now c.check-checked.result c.check-checked.ensures c.if-code-ne0.true in record { answer = both.0; bytes = both.1.0; cleared = both.1.1 }
+    let both = classes-check c.args.list.now c.args.n c.args.classes.now c.args.work.now c.check-checked.result c.check-checked.ensures c.if-code-ne0.true in
+    record { answer = both.0; bytes = both.1.0; cleared = both.1.1 }
 
 pub returns-then-classes-n : goal.returns-then-classes-n
 returns-then-classes-n c =
-    let accepted : c.check-checked.result.code ≡ 0 = c.if-code-ne0.false in let both = classes-room c.args.list.now c.args.n c.args.classes.now c.args.work.now c.check-checked.result c.check-checked.ensures accepted c.if-classes-n.true in record { answer = both.0; bytes = both.1.0; cleared = both.1.1 }
+    let accepted : c.check-checked.result.code ≡ 0 = c.if-code-ne0.false in
+    let both = classes-room c.args.list.now c.args.n c.args.classes.now c.args.work.now c.check-checked.result c.check-checked.ensures accepted c.if-classes-n.true in
+    record { answer = both.0; bytes = both.1.0; cleared = both.1.1 }
 
 pub overflow_mul-words : goal.overflow_mul-words
 overflow_mul-words c =
@@ -26,7 +29,9 @@ overflow_mul-words c =
 
 pub returns-then-work-words : goal.returns-then-work-words
 returns-then-work-words c =
-    let accepted : c.check-checked.result.code ≡ 0 = c.if-code-ne0.false in let both = classes-words c.args.list.now c.args.n c.args.classes.now c.args.work.now c.check-checked.result c.check-checked.ensures accepted c.if-classes-n.false c.if-work-words.true in record { answer = both.0; bytes = both.1.0; cleared = both.1.1 }
+    let accepted : c.check-checked.result.code ≡ 0 = c.if-code-ne0.false in
+    let both = classes-words c.args.list.now c.args.n c.args.classes.now c.args.work.now c.check-checked.result c.check-checked.ensures accepted c.if-classes-n.false c.if-work-words.true in
+    record { answer = both.0; bytes = both.1.0; cleared = both.1.1 }
 
 pub slice_bounds-class_list-end : goal.slice_bounds-class_list-end
 slice_bounds-class_list-end c = search rules
@@ -58,6 +63,8 @@ shape_of-work c = search rules
 
 pub returns : goal.returns
 returns c =
-    let accepted : c.check-checked.result.code ≡ 0 = c.if-code-ne0.false in let both = classes-done c.args.list.now c.args.n c.args.classes.now c.args.work.now c.check-checked.result c.check-checked.ensures accepted c.if-classes-n.false c.if-work-words.false c.class_list.new.marks c.class_list.new.work c.class_list.ensures.0
+    let accepted : c.check-checked.result.code ≡ 0 = c.if-code-ne0.false in
+    let both = classes-done c.args.list.now c.args.n c.args.classes.now c.args.work.now c.check-checked.result c.check-checked.ensures accepted c.if-classes-n.false c.if-work-words.false c.class_list.new.marks c.class_list.new.work c.class_list.ensures.0
     (c.class_list.auto.marks ∙ length-take-le c.args.n c.args.classes.now c.if-classes-n.false)
-    c.class_list.ensures.1 in record { answer = both.0; bytes = both.1.0; cleared = both.1.1 }
+    c.class_list.ensures.1 in
+    record { answer = both.0; bytes = both.1.0; cleared = both.1.1 }

@@ -4,6 +4,7 @@ use mathlib.Core.Path.{◌≡◌, sym, ◌∙◌}
 use lib.ListN.{length}
 use lib.Seq.{length-take-le}
 use Rattle.cut.proofs.Answers.{check-valid, check-corners, cut-check, cut-list-room, cut-map-room, cut-words, cut_made}
+use native.Mathlib.Omega.{arith}
 use borrow.Author.Rules.{rules}
 use Rattle.cut.proofs.cut.Goals as goal
 
@@ -15,21 +16,26 @@ refusal-requires c = search rules
 
 pub returns-then-code-ne0 : goal.returns-then-code-ne0
 returns-then-code-ne0 c =
-    let both = cut-check c.args.list.now c.args.n c.args.new_list.now c.args.map.now c.args.work.now c.check-checked.result c.check-checked.ensures c.refusal.result c.refusal.ensures c.if-code-ne0.true in record { answer = both.0; filled = both.1.0; mapped = both.1.1.0; cleared = both.1.1.1 }
+    let both = cut-check c.args.list.now c.args.n c.args.new_list.now c.args.map.now c.args.work.now c.check-checked.result c.check-checked.ensures c.refusal.result c.refusal.ensures c.if-code-ne0.true in
+    record { answer = both.0; filled = both.1.0; mapped = both.1.1.0; cleared = both.1.1.1 }
 
 pub refusal-requires-then-new_list-size : goal.refusal-requires-then-new_list-size
 refusal-requires-then-new_list-size c = search rules
 
 pub returns-then-new_list-size : goal.returns-then-new_list-size
 returns-then-new_list-size c =
-    let accepted : c.check-checked.result.code ≡ 0 = c.if-code-ne0.false in let both = cut-list-room c.args.list.now c.args.n c.args.new_list.now c.args.map.now c.args.work.now c.check-checked.result c.check-checked.ensures accepted c.refusal-then-new_list-size.result c.refusal-then-new_list-size.ensures c.if-new_list-size.true in record { answer = both.0; filled = both.1.0; mapped = both.1.1.0; cleared = both.1.1.1 }
+    let accepted : c.check-checked.result.code ≡ 0 = c.if-code-ne0.false in
+    let both = cut-list-room c.args.list.now c.args.n c.args.new_list.now c.args.map.now c.args.work.now c.check-checked.result c.check-checked.ensures accepted c.refusal-then-new_list-size.result c.refusal-then-new_list-size.ensures c.if-new_list-size.true in
+    record { answer = both.0; filled = both.1.0; mapped = both.1.1.0; cleared = both.1.1.1 }
 
 pub refusal-requires-then-map-c : goal.refusal-requires-then-map-c
 refusal-requires-then-map-c c = search rules
 
 pub returns-then-map-c : goal.returns-then-map-c
 returns-then-map-c c =
-    let accepted : c.check-checked.result.code ≡ 0 = c.if-code-ne0.false in let both = cut-map-room c.args.list.now c.args.n c.args.new_list.now c.args.map.now c.args.work.now c.check-checked.result c.check-checked.ensures accepted c.if-new_list-size.false c.refusal-then-map-c.result c.refusal-then-map-c.ensures c.if-map-c.true in record { answer = both.0; filled = both.1.0; mapped = both.1.1.0; cleared = both.1.1.1 }
+    let accepted : c.check-checked.result.code ≡ 0 = c.if-code-ne0.false in
+    let both = cut-map-room c.args.list.now c.args.n c.args.new_list.now c.args.map.now c.args.work.now c.check-checked.result c.check-checked.ensures accepted (omega arith) c.refusal-then-map-c.result c.refusal-then-map-c.ensures c.if-map-c.true in
+    record { answer = both.0; filled = both.1.0; mapped = both.1.1.0; cleared = both.1.1.1 }
 
 pub overflow_mul-words : goal.overflow_mul-words
 overflow_mul-words c = search rules
@@ -39,7 +45,9 @@ refusal-requires-then-work-words c = search rules
 
 pub returns-then-work-words : goal.returns-then-work-words
 returns-then-work-words c =
-    let accepted : c.check-checked.result.code ≡ 0 = c.if-code-ne0.false in let both = cut-words c.args.list.now c.args.n c.args.new_list.now c.args.map.now c.args.work.now c.check-checked.result c.check-checked.ensures accepted c.if-new_list-size.false c.if-map-c.false c.refusal-then-work-words.result c.refusal-then-work-words.ensures c.if-work-words.true in record { answer = both.0; filled = both.1.0; mapped = both.1.1.0; cleared = both.1.1.1 }
+    let accepted : c.check-checked.result.code ≡ 0 = c.if-code-ne0.false in
+    let both = cut-words c.args.list.now c.args.n c.args.new_list.now c.args.map.now c.args.work.now c.check-checked.result c.check-checked.ensures accepted c.if-new_list-size.false c.if-map-c.false c.refusal-then-work-words.result c.refusal-then-work-words.ensures c.if-work-words.true in
+    record { answer = both.0; filled = both.1.0; mapped = both.1.1.0; cleared = both.1.1.1 }
 
 pub slice_bounds-cut_list-end : goal.slice_bounds-cut_list-end
 slice_bounds-cut_list-end c = search rules
@@ -75,5 +83,7 @@ shape_of-work c = search rules
 
 pub returns : goal.returns
 returns c =
-    let accepted : c.check-checked.result.code ≡ 0 = c.if-code-ne0.false in let both = cut_made c.args.list.now c.args.n c.args.new_list.now c.args.map.now c.args.work.now c.check-checked.result c.check-checked.ensures accepted c.if-new_list-size.false c.if-map-c.false c.if-work-words.false c.cut_list-counts.result.vertices c.cut_list-counts.result.singular_edges c.cut_list-counts.result.singular_vertices c.cut_list-counts.new.new_list c.cut_list-counts.new.map c.cut_list-counts.new.work c.cut_list-counts.ensures
-    (c.cut_list-counts.auto.new_list ∙ length-take-le (length c.args.list.now) c.args.new_list.now c.if-new_list-size.false) in record { answer = both.0; filled = both.1.0; mapped = both.1.1.0; cleared = both.1.1.1 }
+    let accepted : c.check-checked.result.code ≡ 0 = c.if-code-ne0.false in
+    let both = cut_made c.args.list.now c.args.n c.args.new_list.now c.args.map.now c.args.work.now c.check-checked.result c.check-checked.ensures accepted c.if-new_list-size.false c.if-map-c.false c.if-work-words.false c.cut_list-counts.result.vertices c.cut_list-counts.result.singular_edges c.cut_list-counts.result.singular_vertices c.cut_list-counts.new.new_list c.cut_list-counts.new.map c.cut_list-counts.new.work c.cut_list-counts.ensures
+    (c.cut_list-counts.auto.new_list ∙ length-take-le (length c.args.list.now) c.args.new_list.now c.if-new_list-size.false) in
+    record { answer = both.0; filled = both.1.0; mapped = both.1.1.0; cleared = both.1.1.1 }

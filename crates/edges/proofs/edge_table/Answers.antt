@@ -39,4 +39,5 @@ returns c =
     let w₁ = c.write_words.new.work in
     let w₂ = c.pair_edges-singular.new.work in
     let w₃ = c.take_apart.new.work in
-    let keys = c.write_words.ensures.keys in record { table = table_is l c.args.n _ c.requires.0 corner-count w₁ w₂ w₃ keys long c.write_words.ensures.words c.pair_edges-singular.ensures.right c.pair_edges-singular.ensures.kept c.take_apart.ensures; singular = table_singular l c.args.n _ c.requires.0 corner-count w₁ w₂ w₃ keys _ c.pair_edges-singular.ensures.counted }
+    let keys = c.write_words.ensures.keys in
+    record { table = table_is l c.args.n _ c.requires.0 corner-count w₁ w₂ w₃ keys long c.write_words.ensures.words c.pair_edges-singular.ensures.right c.pair_edges-singular.ensures.kept c.take_apart.ensures; singular = table_singular l c.args.n _ c.requires.0 corner-count w₁ w₂ w₃ keys _ c.pair_edges-singular.ensures.counted }

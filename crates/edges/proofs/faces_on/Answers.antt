@@ -8,6 +8,7 @@ use Rattle.list.specs.declared.CheckAnswer.{CheckAnswer}
 use Rattle.edges.specs.Uses.{faces_on}
 use Rattle.edges.specs.Table.{is_pair, edge_answer}
 use Rattle.edges.proofs.Question.{edge_refused, edge_no_pair, edge_counted}
+use native.Mathlib.Omega.{arith}
 use borrow.Author.Rules.{rules}
 use Rattle.edges.proofs.faces_on.Goals as goal
 
@@ -24,8 +25,9 @@ pub returns-then-code-ne0 : goal.returns-then-code-ne0
 returns-then-code-ne0 d =
     let code : (check_of d.args.list.now d.args.n).code ≡ d.check-checked.result.code = sym (ap (λ (r : CheckAnswer). r.code) d.check-checked.ensures) in
     let faulty : d.check-checked.result.code ≡ 0 → ⊥ = d.if-code-ne0.true in
-    d.refused.ensures ∙
-    ap (λ (r : CheckAnswer). edge_answer r.code r.place 0) d.check-checked.ensures ∙ edge_refused d.args.list.now d.args.n d.args.a d.args.b (λ e. faulty (sym code ∙ e))
+    let answer = ap (λ (r : CheckAnswer). edge_answer r.code r.place 0) d.check-checked.ensures in
+    let due = edge_refused d.args.list.now d.args.n d.args.a d.args.b (λ e. faulty (sym code ∙ e)) in
+    cc
 
 pub refused-requires-then-not-pair : goal.refused-requires-then-not-pair
 refused-requires-then-not-pair c = search rules
@@ -34,8 +36,9 @@ pub returns-then-not-pair : goal.returns-then-not-pair
 returns-then-not-pair d =
     let code : (check_of d.args.list.now d.args.n).code ≡ d.check-checked.result.code = sym (ap (λ (r : CheckAnswer). r.code) d.check-checked.ensures) in
     let pair : is_pair d.args.n d.args.a d.args.b ≡ d.is_pair-pair.result = sym (d.is_pair-pair.ensures ∙ ap₂ (is_pair d.args.n) (to_z-of_z w32 d.args.a d.ranges.a) (to_z-of_z w32 d.args.b d.ranges.b)) in
-    d.refused-then-not-pair.ensures ∙
-    edge_no_pair d.args.list.now d.args.n d.args.a d.args.b (code ∙ d.if-code-ne0.false) (pair ∙ d.if-not-pair.true)
+    let accepted : d.check-checked.result.code ≡ 0 = omega arith in
+    let due = edge_no_pair d.args.list.now d.args.n d.args.a d.args.b (code ∙ accepted) (pair ∙ d.if-not-pair.true) in
+    cc
 
 pub number-requires : goal.number-requires
 number-requires c = search rules

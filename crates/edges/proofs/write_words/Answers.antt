@@ -39,7 +39,8 @@ returns-in_default c =
     let at = c.loop-start.at in
     let v = c.loop-start.invariant in
     let d = step_last l i (sym c.next.ensures ∙ c.in_default.is) in
-    let e : c.args.c ≡ at = sym (walking_done max_vertices l i at d v.walking ∙ c.requires.1) in record { keys = ap (λ (m : ℕ). part 0 m c.loop-start.work) e ∙ written_done max_vertices l i at d v.walking key_of 0 c.loop-start.work v.keys; words = ap (λ (m : ℕ). part (3 * c.args.c) m c.loop-start.work) e ∙ written_done max_vertices l i at d v.walking corner_of (3 * c.args.c) c.loop-start.work v.words }
+    let e : c.args.c ≡ at = sym (walking_done max_vertices l i at d v.walking ∙ c.requires.1) in
+    record { keys = ap (λ (m : ℕ). part 0 m c.loop-start.work) e ∙ written_done max_vertices l i at d v.walking key_of 0 c.loop-start.work v.keys; words = ap (λ (m : ℕ). part (3 * c.args.c) m c.loop-start.work) e ∙ written_done max_vertices l i at d v.walking corner_of (3 * c.args.c) c.loop-start.work v.words }
 
 pub offset_bounds-list-start : goal.offset_bounds-list-start
 offset_bounds-list-start c =
@@ -65,7 +66,8 @@ pub write_words-requires : goal.write_words-requires
 write_words-requires c =
     let stepped : Stepped c.args.list.now c.loop-start.cursor.at c.in-Face.start c.in-Face.end c.in-Face.next = step_stepped _ _ _ _ _ (sym c.next.ensures ∙ c.in-Face.is) in
     let t = stepped in
-    let f = take (c.in-Face.end - c.in-Face.start) (drop c.in-Face.start c.args.list.now) in record { face_bound = (omega (arith, t.long, walking_room _ _ _ _ _ _ _ t c.loop-start.invariant.walking, c.requires.1), omega (arith, few_corners _ _ c.requires.0, c.requires.1), omega (arith, c.loop-start.invariant.long, c.requires.2)); by_index = λ i h. vertex_in max_vertices f (walking_valid _ _ _ _ _ _ _ t c.loop-start.invariant.walking) i (rw (vertices_long f) h) }
+    let f = take (c.in-Face.end - c.in-Face.start) (drop c.in-Face.start c.args.list.now) in
+    record { face_bound = (omega (arith, t.long, walking_room _ _ _ _ _ _ _ t c.loop-start.invariant.walking, c.requires.1), omega (arith, few_corners _ _ c.requires.0, c.requires.1), omega (arith, c.loop-start.invariant.long, c.requires.2)); by_index = λ i h. vertex_in max_vertices f (walking_valid _ _ _ _ _ _ _ t c.loop-start.invariant.walking) i (rw (vertices_long f) h) }
 
 pub overflow_sub-at : goal.overflow_sub-at
 overflow_sub-at c =

@@ -28,4 +28,5 @@ returns c =
     let w₁ = c.order_corners.new.work in
     let w₂ = c.match_corners.new.work in
     let kept = c.order_corners.ensures.kept in
-    let keys = kept_part c.args.c (2 * c.args.c) 0 c.args.c w w₁ (inl (omega arith)) (omega (arith, c.requires.0)) kept in record { right = rw keys at c.match_corners.ensures.right; counted = rw keys at c.match_corners.ensures.counted; kept = kept_trans c.args.c (2 * c.args.c) w w₁ w₂ kept (kept_wider (2 * c.args.c) c.args.c c.args.c (2 * c.args.c) w₁ w₂ (omega arith) (omega arith) c.match_corners.ensures.kept) }
+    let keys = kept_part c.args.c (2 * c.args.c) 0 c.args.c w w₁ (inl (omega arith)) (omega (arith, c.requires.0)) kept in
+    record { right = rw keys at c.match_corners.ensures.right; counted = rw keys at c.match_corners.ensures.counted; kept = kept_trans c.args.c (2 * c.args.c) w w₁ w₂ kept (kept_wider (2 * c.args.c) c.args.c c.args.c (2 * c.args.c) w₁ w₂ (omega arith) (omega arith) c.match_corners.ensures.kept) }

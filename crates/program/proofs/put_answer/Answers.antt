@@ -30,8 +30,10 @@ shape_of-output-then-most-input c = search rules
 
 pub returns-then-most-input : goal.returns-then-most-input
 returns-then-most-input c =
-    let m = c.max_input-most.ensures in let both = same c.put_refusal.result c.args.output.now c.put_refusal.new.output (large_printed c.args.input.now (rw m at c.if-most-input.true))
-    (rw m at c.put_refusal.ensures.value, rw m at c.put_refusal.ensures.output_after) in record { value = both.0; output_after = both.1 }
+    let m = c.max_input-most.ensures in
+    let both = same c.put_refusal.result c.args.output.now c.put_refusal.new.output (large_printed c.args.input.now (rw m at c.if-most-input.true))
+    (rw m at c.put_refusal.ensures.value, rw m at c.put_refusal.ensures.output_after) in
+    record { value = both.0; output_after = both.1 }
 
 pub slice_bounds-read-end : goal.slice_bounds-read-end
 slice_bounds-read-end c = search rules
@@ -53,10 +55,12 @@ returns-then-code-ne0 c =
     let input : List ℕ = c.args.input.now in
     let answered : c.read-read.result ≡ read_of input input_entries = c.read-read.ensures.value in
     let small : length c.args.input.now ≤ input_bytes = rw c.max_input-most.ensures at c.if-most-input.false in
-    let e = answered in let both = same c.put_refusal-then-code-ne0.result c.args.output.now c.put_refusal-then-code-ne0.new.output
+    let e = answered in
+    let both = same c.put_refusal-then-code-ne0.result c.args.output.now c.put_refusal-then-code-ne0.new.output
     (unread_printed c.args.input.now small (λ z. c.if-code-ne0.true (ap (λ (x : ReadAnswer). x.code) e ∙ z))
     ∙ ap (λ (x : ReadAnswer). line (refusal x.code x.place)) (sym e))
-    (c.put_refusal-then-code-ne0.ensures.value, c.put_refusal-then-code-ne0.ensures.output_after) in record { value = both.0; output_after = both.1 }
+    (c.put_refusal-then-code-ne0.ensures.value, c.put_refusal-then-code-ne0.ensures.output_after) in
+    record { value = both.0; output_after = both.1 }
 
 pub slice_bounds-list-end : goal.slice_bounds-list-end
 slice_bounds-list-end c =
@@ -95,6 +99,8 @@ returns c =
     let accepted : c.read-read.result.code ≡ 0 → (read_of input input_entries).code ≡ 0 = λ ok. ap (λ (x : ReadAnswer). x.code) (sym answered) ∙ ok in
     let part : c.read-read.result.code ≡ 0 → take c.read-read.result.entries c.read-read.new.list ≡ entries_in input = λ ok. ap (λ (x : ReadAnswer). take x.entries c.read-read.new.list) answered
     ∙ entries_part input (accepted ok) (replicate input_entries (pos 0)) c.read-read.new.list refl c.read-read.ensures.list_after in
-    let ok = c.if-code-ne0.false in let both = same c.put_cut.result c.args.output.now c.put_cut.new.output
+    let ok = c.if-code-ne0.false in
+    let both = same c.put_cut.result c.args.output.now c.put_cut.new.output
     (read_printed c.args.input.now small (accepted ok) ∙ ap printed_cut (sym (part ok)))
-    (c.put_cut.ensures.value, c.put_cut.ensures.output_after) in record { value = both.0; output_after = both.1 }
+    (c.put_cut.ensures.value, c.put_cut.ensures.output_after) in
+    record { value = both.0; output_after = both.1 }

@@ -61,7 +61,8 @@ returns-then-code-ne0 c =
     let at-is : c.put_line-at.result ≡ length (line (cut_numbers (cut_answer l))) = c.put_line-at.ensures.value.0 ∙ ap (λ (xs : List ℕ). length (line xs)) numbers in
     let output : List ℕ = c.args.output.now in
     let put_is : c.put_line-at.new.output ≡ put 0 (line (cut_numbers (cut_answer l))) output = c.put_line-at.ensures.output_after ∙ ap (λ (xs : List ℕ). put 0 (line xs) output) numbers in
-    let e = refused_printed l (λ z. c.if-code-ne0.true (ap (λ (r : CutAnswer). r.code) answer ∙ z)) in record { value = at-is ∙ ap length (sym e); output_after = put_is ∙ ap (λ (w : List ℕ). put 0 w c.args.output.now) (sym e) }
+    let e = refused_printed l (λ z. c.if-code-ne0.true (ap (λ (r : CutAnswer). r.code) answer ∙ z)) in
+    record { value = at-is ∙ ap length (sym e); output_after = put_is ∙ ap (λ (w : List ℕ). put 0 w c.args.output.now) (sym e) }
 
 pub slice_bounds-new_list-end : goal.slice_bounds-new_list-end
 slice_bounds-new_list-end c = search rules
@@ -160,5 +161,7 @@ returns c =
     let m = c.put_list.ensures.value ∙ ap (λ (x : List ℤ). c.put_list-end.result + length (list_line x)) w.new_map in
     let u = c.put_list.ensures.output_after ∙ ap (λ (x : List ℤ). put c.put_list-end.result (list_line x) c.put_list-end.new.output) w.new_map in
     let t = c.args.output.now in
-    let room : c.put_list.result ≤ length t = omega (arith, m, at_small, behind-is, c.requires.1, w.list-short, w.map-short) in let both = three_lines l z c.put_line-at.result c.put_list-end.result c.put_list.result t c.put_line-at.new.output c.put_list-end.new.output c.put_list.new.output
-    at-is put_is behind-is list-put-is m u room in record { value = both.0; output_after = both.1 }
+    let room : c.put_list.result ≤ length t = omega (arith, m, at_small, behind-is, c.requires.1, w.list-short, w.map-short) in
+    let both = three_lines l z c.put_line-at.result c.put_list-end.result c.put_list.result t c.put_line-at.new.output c.put_list-end.new.output c.put_list.new.output
+    at-is put_is behind-is list-put-is m u room in
+    record { value = both.0; output_after = both.1 }

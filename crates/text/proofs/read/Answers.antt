@@ -30,7 +30,8 @@ returns-then-not-opens_at c =
     let a = c.args in
     let e =
     whole_unopened a.text.now c.skip-start.result c.skip-start.ensures (length a.list.now)
-    (sym c.opens_at.ensures ∙ c.if-not-opens_at.true) in record { value = c.refused_read.ensures ∙ sym e; list_after = sym (into_refused a.text.now a.list.now (λ z. refused_not a.text.now a.list.now c.skip-start.result e z)) }
+    (sym c.opens_at.ensures ∙ c.if-not-opens_at.true) in
+    record { value = c.refused_read.ensures ∙ sym e; list_after = sym (into_refused a.text.now a.list.now (λ z. refused_not a.text.now a.list.now c.skip-start.result e z)) }
 
 pub overflow_add-at : goal.overflow_add-at
 overflow_add-at c =
@@ -76,4 +77,5 @@ returns-else-code-eq0 c =
     let answer : c.look-answer.result ≡ read_of c.args.text.now (length c.args.list.now) = (let a = c.args in
     c.look-answer.ensures
     ∙ rw c.room_of.ensures (sym (read_inside a.text.now c.skip-start.result c.skip-start.ensures head (length a.list.now)))) in
-    let a = c.args in record { value = answer; list_after = sym (into_refused a.text.now a.list.now (rw answer at c.if-code-eq0.false)) }
+    let a = c.args in
+    record { value = answer; list_after = sym (into_refused a.text.now a.list.now (rw answer at c.if-code-eq0.false)) }

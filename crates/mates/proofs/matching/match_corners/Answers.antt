@@ -1,4 +1,5 @@
 -- `matching::match_corners` meets its contract: with 0 at every vertex none has met.
+use native.Mathlib.Omega.{arith}
 use borrow.Author.Rules.{rules}
 use Rattle.list.specs.Limits.{max_vertices}
 use Rattle.mates.proofs.Meeting.{none_met}
@@ -8,7 +9,7 @@ pub slice_bounds-meet_all-end : goal.slice_bounds-meet_all-end
 slice_bounds-meet_all-end c = search rules
 
 pub meet_all-requires : goal.meet_all-requires
-meet_all-requires c = none_met c.args.c c.args.n _ c.args.work.now c.requires.0 c.requires.2 c.if-n-le-FEW_VERTICES.true
+meet_all-requires c = none_met c.args.c c.args.n 4096 c.args.work.now c.requires.0 c.requires.2 (omega arith)
 
 pub shape_of-work-then-n-le-FEW_VERTICES : goal.shape_of-work-then-n-le-FEW_VERTICES
 shape_of-work-then-n-le-FEW_VERTICES c = search rules

@@ -90,7 +90,8 @@ shape_of-last-then-b-a c = search rules
 
 pub returns-then-b-a : goal.returns-then-b-a
 returns-then-b-a c =
-    let t = pair_turn c.args.c c.args.i c.args.work.now c.args.last.now c.requires.0 c.requires.1 c.last_before-a.result c.last_before-a.new.last c.last_before-a.ensures.last c.last_before-a.ensures.noted c.if-b-a.true in record { met = t.met; kept = t.kept; counted = t.counted }
+    let t = pair_turn c.args.c c.args.i c.args.work.now c.args.last.now c.requires.0 c.requires.1 c.last_before-a.result c.last_before-a.new.last c.last_before-a.ensures.last c.last_before-a.ensures.noted c.if-b-a.true in
+    record { met = t.met; kept = t.kept; counted = t.counted }
 
 pub overflow_cast-work : goal.overflow_cast-work
 overflow_cast-work c = search rules
@@ -116,7 +117,8 @@ shape_of-last-then-b-c c = search rules
 
 pub returns-then-b-c : goal.returns-then-b-c
 returns-then-b-c c =
-    let t = join_turn c.args.c c.args.i c.args.work.now c.args.last.now c.requires.0 c.requires.1 c.last_before-a.result c.last_before-a.new.last c.last_before-a.ensures.last c.last_before-a.ensures.noted c.if-b-a.false c.if-b-c.true in record { met = t.met; kept = t.kept; counted = t.counted }
+    let t = join_turn c.args.c c.args.i c.args.work.now c.args.last.now c.requires.0 c.requires.1 c.last_before-a.result c.last_before-a.new.last c.last_before-a.ensures.last c.last_before-a.ensures.noted c.if-b-a.false c.if-b-c.true in
+    record { met = t.met; kept = t.kept; counted = t.counted }
 
 pub overflow_cast-work-2 : goal.overflow_cast-work-2
 overflow_cast-work-2 c = search rules
@@ -163,4 +165,5 @@ shape_of-last c = search rules
 pub returns : goal.returns
 returns c =
     let crowd : let v = set c.args.work.now (2 * c.args.c + get_or c.args.work.now (c.args.c + c.args.i) 0) (get_or c.args.work.now (c.args.c + c.args.i) 0) in (get_or v (2 * c.args.c + c.last_before-a.result) 0 < c.args.c) × Turned c.args.c c.args.i c.args.work.now (set (set (set v (2 * c.args.c + get_or c.args.work.now (c.args.c + c.args.i) 0) c.args.c) (2 * c.args.c + c.last_before-a.result) c.args.c) (2 * c.args.c + get_or v (2 * c.args.c + c.last_before-a.result) 0) c.args.c) c.last_before-a.new.last 1 = crowd_turn c.args.c c.args.i c.args.work.now c.args.last.now c.requires.0 c.requires.1 c.last_before-a.result c.last_before-a.new.last c.last_before-a.ensures.last c.last_before-a.ensures.noted c.if-b-a.false c.if-b-c.false in
-    let t = crowd.1 in record { met = t.met; kept = t.kept; counted = t.counted }
+    let t = crowd.1 in
+    record { met = t.met; kept = t.kept; counted = t.counted }

@@ -34,4 +34,5 @@ shape_of-last c = c.loop-i.invariant.0
 
 pub returns : goal.returns
 returns c =
-    let l = c.loop-i in record { right = meeting_right _ _ _ _ _ _ l.invariant.1 c.loop-i-test.false; counted = meeting_counted _ _ _ _ _ _ l.invariant.1 c.loop-i-test.false; kept = l.invariant.1.kept }
+    let l = c.loop-i in
+    record { right = meeting_right _ _ _ _ _ _ l.invariant.1 c.loop-i-test.false; counted = meeting_counted _ _ _ _ _ _ l.invariant.1 c.loop-i-test.false; kept = l.invariant.1.kept }

@@ -41,4 +41,5 @@ shape_of-output c = c.loop-i.invariant.0
 pub returns : goal.returns
 returns c =
     let z = line_past c.args.numbers.now c.loop-i.i c.loop-i-test.false in
-    let n = ap length z in record { value = (omega arith, omega arith); output_after = sym (put_none c.loop-i.at c.loop-i.output) ∙ rw z at c.loop-i.invariant.4 }
+    let n = ap length z in
+    record { value = (omega arith, omega arith); output_after = sym (put_none c.loop-i.at c.loop-i.output) ∙ rw z at c.loop-i.invariant.4 }

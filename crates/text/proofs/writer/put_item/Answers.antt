@@ -81,4 +81,5 @@ shape_of-text c = search rules
 pub returns : goal.returns
 returns c =
     let a = c.args in
-    let e = item_last a.list.now a.i c.requires.0 c.if-i-list.false in record { value = rw e c.put_entry-next.ensures.value; text_after = rw e c.put_entry-next.ensures.text_after }
+    let e = item_last a.list.now a.i c.requires.0 c.if-i-list.false in
+    record { value = rw e c.put_entry-next.ensures.value; text_after = rw e c.put_entry-next.ensures.text_after }
