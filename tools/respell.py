@@ -74,7 +74,8 @@ def turned(word, names):
 
 def lemma_files():
     for p in sorted(glob.glob("crates/*/specs/**/*.antt", recursive=True) + glob.glob("crates/*/proofs/**/*.antt", recursive=True)):
-        if os.path.basename(p) not in ("Proof.antt", "Answers.antt", "Invariants.antt") and "/out/" not in p:
+        made = os.path.basename(p) in ("Proof.antt", "Answers.antt", "Invariants.antt") and p.count("/") > 3
+        if not made and "/out/" not in p:
             yield p
 
 
@@ -116,7 +117,7 @@ def main(argv):
     check = "--check" in argv
     crate_names = set(os.listdir("crates"))
     texts = {p: open(p, encoding="utf-8").read() for p in lemma_files()}
-    foreign, words, declared = set(), set(), {}
+    foreign, words, declared, inner = set(), set(), {}, set()
     for p, t in texts.items():
         u = uncommented(t)
         foreign |= outside(u, crate_names)
@@ -124,11 +125,17 @@ def main(argv):
             words.add(w)
         for m in re.finditer(r"^\s*(?:(?:unfoldable|abbrev|pub|record|data) )*([^\s(){}\[\];,.:]+)(?: \{[^}]*\})*\s*(?:\([^=\n]*\)\s*)*:(?!=)", u, re.M):
             declared.setdefault(m[1], p)
+            if m[0].lstrip("\n")[:1].isspace() and "/specs/" in p and not re.search(r"\b(abbrev|unfoldable)\b", m[0]):
+                inner.add(m[1])  # a field or a constructor
     specs_of = {n for n, p in declared.items() if "-" not in n}
-    specs = {snake(n) for n, p in declared.items() if "/specs/" in p and "-" not in n}
+    specs = {snake(n) for n, p in declared.items() if "/specs/" in p and "-" not in n and n not in inner}
     names = ({n for n in specs if n[:1].islower()} | STD) - {"count", "counts"}
+    # a lemma makes room for a definition only where the definition is not turned yet
+    for w, definition in (("labels_at", "labelsAt"), ("on_edge", "onEdge"), ("run_length", "runLength")):
+        if definition not in words:
+            FIXED.pop(w, None)
     todo = sorted(w for w in words if (odd(w) or w in FIXED) and w not in foreign)
-    new = {w: turned(w, names) for w in todo}
+    new = {w: turned(w, set() if w in inner else names) for w in todo}
     # a lemma that would have its definition's name
     for w in todo:
         if "-" in w and w not in FIXED and w in declared and any(v != w and v in specs_of and turned(v, names) == new[w] for v in todo + [new[w]]):

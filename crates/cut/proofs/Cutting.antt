@@ -49,9 +49,9 @@ module _ (n m : ℕ) (h : n ≤ m) where
   lent_cut l v p new_list old new G = rw (← lent_long) at G
 
 -- the entries of vertices are those vertices
-vertices-back : (vs : List ℕ) → vertices (map pos vs) ≡ vs
-vertices-back [] = refl
-vertices-back (v ∷ vs) = ap (λ (r : List ℕ). v ∷ r) (vertices-back vs)
+vertices_back : (vs : List ℕ) → vertices (map pos vs) ≡ vs
+vertices_back [] = refl
+vertices_back (v ∷ vs) = ap (λ (r : List ℕ). v ∷ r) (vertices_back vs)
 
 module _ (w : List ℕ) (c : ℕ) where
   roots_few : (m s : ℕ) → length (root_vertices w c s m) ≤ m
@@ -122,7 +122,7 @@ module _ (l : List ℤ) (n c : ℕ) (ok : Valid l n) (w : List ℕ) (G : Grouped
       points_few = omega (arith, E.counted, F.counted, choose_few is_singular_mark ys)
 
       met : (v : ℕ) → count (eqb v) (vertices (take r new)) ≡ roots_on w c v 0 c
-      met v = ap (λ (es : List ℤ). count (eqb v) (vertices es)) part_is ∙ ap (count (eqb v)) (vertices-back (root_vertices w c 0 c)) ∙ roots_on_lem w c v c 0
+      met v = ap (λ (es : List ℤ). count (eqb v) (vertices es)) part_is ∙ ap (count (eqb v)) (vertices_back (root_vertices w c 0 c)) ∙ roots_on_lem w c v c 0
 
       same_class : (v : ℕ) → v < n → is_singular_mark (at ys v) ≡ is_singular_class (class_of l v)
       same_class v h =

@@ -24,7 +24,7 @@ use Rattle.demands.specs.Renumbered.{Corner, vertex_at}
 use Rattle.demands.specs.Linked.{OneFan}
 use Rattle.demands.specs.Labelling.{label_at}
 use Rattle.demands.specs.Classed.{Used, Standalone, EndsSingular, EndsBoundary, ManyFans}
-use Rattle.demands.proofs.Distinct.{Different, distinct_has, distinct_of, distinct-different, two_in}
+use Rattle.demands.proofs.Distinct.{Different, distinct_has, distinct_of, distinct_different, two_in}
 use Rattle.demands.proofs.Corners.{next}
 use Rattle.demands.proofs.Crossing.{use_from, use_to, edge_vertices}
 use Rattle.demands.proofs.Result.{groups_length}
@@ -165,7 +165,7 @@ at_labels v (suc x) (u ∷ us) (y ∷ labels) h k e = go (eqb v u.from) (at_labe
 module _ (l : List ℤ) (n : ℕ) (valid : Valid l n) (v : ℕ) where
   many_fans : ltb 1 (fans_at l v) ≡ true → ManyFans l v
   unfolding fans_at fan_labels
-  many_fans e = go (distinct ks) (distinct-different ks) (λ k i. distinct_of k ks i) (ltb-true 1 (length (distinct ks)) e)
+  many_fans e = go (distinct ks) (distinct_different ks) (λ k i. distinct_of k ks i) (ltb-true 1 (length (distinct ks)) e)
     where
       fans : List ℕ
       fans = groups_of_uses every_edge (uses l)

@@ -11,7 +11,7 @@ use lib.IntN.{ℤ}
 use lib.ListN.{length, get_or, length-map}
 use Rattle.list.specs.Check.{Valid}
 use Rattle.order.specs.Choose.{choose, up_from}
-use Rattle.order.proofs.Lists.{In, in_choose, in_chosen, in_at, at_in, choose-map, in_up_from, up_from_in, Rising, rising_up_from, rising_choose, rising_above, all_at, from-table}
+use Rattle.order.proofs.Lists.{In, in_choose, in_chosen, in_at, at_in, choose-map, in_up_from, up_from_in, Rising, rising_up_from, rising_choose, rising_above, all_at, from_table}
 use Rattle.mates.specs.Mates.{starts_many}
 use Rattle.edges.specs.Uses.{Use, uses, lo, hi, is_boundary, is_singular, starts_singular, singular_edge_count, no_use, use_at}
 use Rattle.edges.proofs.Uses.{corner_at_lem}
@@ -127,7 +127,7 @@ module _ (l : List ℤ) (n : ℕ) (valid : Valid l n) where
   chosen_edges =
       sym (length-map (choose is_first (up_from 0 c)) (use_at l)) ∙
       ap length (sym (choose-map (starts_singular (uses l)) (use_at l) (up_from 0 c))) ∙
-      ap (λ (us : List Use). length (choose (starts_singular (uses l)) us)) (from-table no_use (uses l))
+      ap (λ (us : List Use). length (choose (starts_singular (uses l)) us)) (from_table no_use (uses l))
 
   sharing_pair : (a b p q : ℕ) → min a b ≡ min p q → max a b ≡ max p q → sharing l a b ≡ sharing l p q
   sharing_pair a b p q low high =

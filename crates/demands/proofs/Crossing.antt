@@ -157,11 +157,11 @@ across_back l a =
       two_below = a.one_below;
       differ = λ p. a.differ (sym p);
       same_edge = ends_same l f e a.two_below a.one_below (ends_back l f e (same_ends l e f a.one_below a.two_below a.same_edge));
-      two-faces =
+      two_faces =
           sym (sharing_faces l (use_at l f).from (use_at l f).to) ∙
           ap length (sharing_same l (use_at l e).from (use_at l e).to f a.same_edge) ∙
           sharing_faces l (use_at l e).from (use_at l e).to ∙
-          a.two-faces;
+          a.two_faces;
       x_is = a.y_is;
       y_is = a.x_is;
       same_vertex = sym a.same_vertex;
@@ -182,7 +182,7 @@ crossing_meets J l ok = record {
         let same_one : b.one ≡ e = side_once l ok b.one e s b.one_below a.one_below (sym b.x_is ∙ a.x_is) in
         let g_ends : Ends l g e = subst (λ (k : ℕ). Ends l g k) same_one (same_ends l b.one g b.one_below b.two_below b.same_edge) in
         let f_ends : Ends l f e = same_ends l e f a.one_below a.two_below a.same_edge in
-        let same-two : f ≡ g = two_only l ok e f g a.one_below a.two_below b.two_below a.two-faces f_ends g_ends a.differ (λ p. b.differ (same_one ∙ p)) in
-        let vertex : vertex_by l f t ≡ vertex_by l f u = ap (vertex_at l) (sym a.y_is) ∙ sym a.same_vertex ∙ b.same_vertex ∙ ap (vertex_at l) (b.y_is ∙ ap (λ (k : ℕ). corner_by l k u) (sym same-two)) in
+        let same_two : f ≡ g = two_only l ok e f g a.one_below a.two_below b.two_below a.two_faces f_ends g_ends a.differ (λ p. b.differ (same_one ∙ p)) in
+        let vertex : vertex_by l f t ≡ vertex_by l f u = ap (vertex_at l) (sym a.y_is) ∙ sym a.same_vertex ∙ b.same_vertex ∙ ap (vertex_at l) (b.y_is ∙ ap (λ (k : ℕ). corner_by l k u) (sym same_two)) in
         let side : t ≡ u = end_once l ok f t u a.two_below vertex in
-        (a.y_is ∙ ap (corner_by l f) side ∙ ap (λ (k : ℕ). corner_by l k u) same-two ∙ sym b.y_is, side)
+        (a.y_is ∙ ap (corner_by l f) side ∙ ap (λ (k : ℕ). corner_by l k u) same_two ∙ sym b.y_is, side)

@@ -76,7 +76,7 @@ module _ (l : List ℤ) (n : ℕ) (accepted : Accepted l n) where
   pub map_entry : (x : ℕ) → Corner l x → get_or (new_map l) (vertex_at (new_list l) x) (pos 0) ≡ get_or (corners l) x (pos 0)
   map_entry x h =
       ap (λ (v : ℕ). get_or (new_map l) v (pos 0)) (Numbering.new_vertex l (group_labels l) groups_length x) ∙
-      Numbering.back-number l (group_labels l) groups_length (new_map l) map_gives_back x h
+      Numbering.back_number l (group_labels l) groups_length (new_map l) map_gives_back x h
 
   -- "two corners have the same new vertex exactly when they are joined by the smallest equivalence that holds the paper's links"
   pub same_vertex_when_joined : (x y : ℕ) → Corner l x → Corner l y → (vertex_at (new_list l) x ≡ vertex_at (new_list l) y) ↔ Joined (Linked l) x y

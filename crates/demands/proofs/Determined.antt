@@ -2,8 +2,8 @@
 -- what a caller learns from the contract: of the arguments, the answer, and the arguments as the call leaves them.
 use mathlib.Core.Path.{◌≡◌, ◌∙⁻¹◌}
 use contract.Lifetimes.{Lfts}
-use Rattle.list.proofs.IndexList.max_entries.Reads as max-entries
-use Rattle.list.proofs.IndexList.max_vertices.Reads as max-vertices
+use Rattle.list.proofs.IndexList.max_entries.Reads as max_entries
+use Rattle.list.proofs.IndexList.max_vertices.Reads as max_vertices
 use Rattle.list.proofs.IndexList.cursor.Reads as cursor
 use Rattle.list.proofs.Cursor.next.Reads as next
 use Rattle.list.proofs.end_at.Reads as end_at
@@ -18,7 +18,7 @@ use Rattle.number.proofs.bytes.is_digit.Reads as is_digit
 use Rattle.number.proofs.bytes.in_comment.Reads as in_comment
 use Rattle.number.proofs.bytes.in_gap.Reads as in_gap
 use Rattle.number.proofs.decimal.digit_count.Reads as digit_count
-use Rattle.number.proofs.decimal.put_digits.Reads as put-digits
+use Rattle.number.proofs.decimal.put_digits.Reads as put_digits
 use Rattle.text.proofs.read.Reads as read
 use Rattle.text.proofs.write.Reads as write
 use Rattle.number.proofs.read_number.Reads as read_number
@@ -29,10 +29,10 @@ use Rattle.cut.proofs.classes.Reads as classes
 use Rattle.cut.proofs.cut.Reads as cut
 
 -- list
-pub max_entries_determined : (κs : Lfts 0) (a : _) (r₁ r₂ : _) (s₁ s₂ : _) → max-entries.Learnt κs a r₁ s₁ → max-entries.Learnt κs a r₂ s₂ → r₁ ≡ r₂
+pub max_entries_determined : (κs : Lfts 0) (a : _) (r₁ r₂ : _) (s₁ s₂ : _) → max_entries.Learnt κs a r₁ s₁ → max_entries.Learnt κs a r₂ s₂ → r₁ ≡ r₂
 max_entries_determined κs a r₁ r₂ s₁ s₂ p q = p ∙⁻¹ q
 
-pub max_vertices_determined : (κs : Lfts 0) (a : _) (r₁ r₂ : _) (s₁ s₂ : _) → max-vertices.Learnt κs a r₁ s₁ → max-vertices.Learnt κs a r₂ s₂ → r₁ ≡ r₂
+pub max_vertices_determined : (κs : Lfts 0) (a : _) (r₁ r₂ : _) (s₁ s₂ : _) → max_vertices.Learnt κs a r₁ s₁ → max_vertices.Learnt κs a r₂ s₂ → r₁ ≡ r₂
 max_vertices_determined κs a r₁ r₂ s₁ s₂ p q = p ∙⁻¹ q
 
 pub cursor_determined : (κs : Lfts 0) (a : _) (r₁ r₂ : _) (s₁ s₂ : _) → cursor.Learnt κs a r₁ s₁ → cursor.Learnt κs a r₂ s₂ → r₁ ≡ r₂
@@ -81,7 +81,7 @@ in_gap_determined κs a r₁ r₂ s₁ s₂ p q = p ∙⁻¹ q
 pub digit_count_determined : (κs : Lfts 0) (a : _) (r₁ r₂ : _) (s₁ s₂ : _) → digit_count.Learnt κs a r₁ s₁ → digit_count.Learnt κs a r₂ s₂ → r₁ ≡ r₂
 digit_count_determined κs a r₁ r₂ s₁ s₂ p q = p.0 ∙⁻¹ q.0
 
-pub put_digits_determined : (κs : Lfts 1) (a : _) (r₁ r₂ : _) (s₁ s₂ : _) → put-digits.Learnt κs a r₁ s₁ → put-digits.Learnt κs a r₂ s₂ → s₁.0.now ≡ s₂.0.now
+pub put_digits_determined : (κs : Lfts 1) (a : _) (r₁ r₂ : _) (s₁ s₂ : _) → put_digits.Learnt κs a r₁ s₁ → put_digits.Learnt κs a r₂ s₂ → s₁.0.now ≡ s₂.0.now
 put_digits_determined κs a r₁ r₂ s₁ s₂ p q = p ∙⁻¹ q
 
 -- text

@@ -69,11 +69,11 @@ without_in x z (y ∷ ys) n i = go (eqb x y) refl i (without_in x z ys n)
     go false e (inl p) ih = inl p
     go false e (inr i) ih = inr (ih i)
 
-pub different-fit : (xs ys : List ℕ) → Different xs → ((x : ℕ) → In x xs → In x ys) → length xs ≤ length ys
-different-fit [] ys d h = omega arith
-different-fit (x ∷ xs) ys d h =
+pub different_fit : (xs ys : List ℕ) → Different xs → ((x : ℕ) → In x xs → In x ys) → length xs ≤ length ys
+different_fit [] ys d h = omega arith
+different_fit (x ∷ xs) ys d h =
     let other : (z : ℕ) → In z xs → z ≡ x → ⊥ = λ z i e. d.0 (rw e at i) in
-    let rest : length xs ≤ length (without x ys) = different-fit xs (without x ys) d.1 (λ z i. without_in x z ys (other z i) (h z (inr i))) in
+    let rest : length xs ≤ length (without x ys) = different_fit xs (without x ys) d.1 (λ z i. without_in x z ys (other z i) (h z (inr i))) in
     omega (arith, without_length x ys (h x (inl refl)))
 
 in_map : (f : ℕ → ℕ) (x : ℕ) (xs : List ℕ) → In x xs → In (f x) (map f xs)
@@ -87,7 +87,7 @@ Onto f ds gs = (g : ℕ) → In g gs → (d : ℕ) × In d ds × (f d ≡ g)
 
 pub onto_fit : (f : ℕ → ℕ) (ds gs : List ℕ) → Different gs → Onto f ds gs → length gs ≤ length ds
 onto_fit f ds gs different onto =
-    rw (length-map ds f) at (different-fit gs (map f ds) different (λ g i. let d = onto g i in rw d.2 at (in_map f d.0 ds d.1)))
+    rw (length-map ds f) at (different_fit gs (map f ds) different (λ g i. let d = onto g i in rw d.2 at (in_map f d.0 ds d.1)))
 
 pub onto_exact : (f : ℕ → ℕ) (ds gs : List ℕ) → Different gs → Onto f ds gs → length ds ≤ length gs → (x y : ℕ) → In x ds → In y ds → f x ≡ f y → x ≡ y
 onto_exact f ds gs different onto few x y x_in y_in e = ⊎_elim (λ p. p) (λ n. absurd (spare n)) (equal_or_not x y)
@@ -145,8 +145,8 @@ distinct_has x xs i = after_has x (after [] xs) i (λ i. i)
 pub distinct_of : (x : ℕ) (xs : List ℕ) → In x (distinct xs) → In x xs
 distinct_of x xs i = (after_of x (after [] xs) i).0
 
-pub distinct-different : (xs : List ℕ) → Different (distinct xs)
-distinct-different xs = after_different (after [] xs)
+pub distinct_different : (xs : List ℕ) → Different (distinct xs)
+distinct_different xs = after_different (after [] xs)
 
 -- the place of an element
 
@@ -196,7 +196,7 @@ place_at (x ∷ xs) (suc i) d h =
 
 -- three different elements make a list of at least three
 pub three_in : (x y z : ℕ) (xs : List ℕ) → In x xs → In y xs → In z xs → (x ≡ y → ⊥) → (x ≡ z → ⊥) → (y ≡ z → ⊥) → 3 ≤ length xs
-three_in x y z xs x_in y_in z_in x≢y x≢z y≢z = different-fit (x ∷ y ∷ z ∷ []) xs (⊎_elim x≢y (⊎_elim x≢z (λ i. i)), (⊎_elim y≢z (λ i. i), (λ i. i, tt))) each
+three_in x y z xs x_in y_in z_in x≢y x≢z y≢z = different_fit (x ∷ y ∷ z ∷ []) xs (⊎_elim x≢y (⊎_elim x≢z (λ i. i)), (⊎_elim y≢z (λ i. i), (λ i. i, tt))) each
   where
     each : (w : ℕ) → (w ≡ x) ⊎ (w ≡ y) ⊎ (w ≡ z) ⊎ ⊥ → In w xs
     each w (inl e) = rw e x_in
@@ -205,7 +205,7 @@ three_in x y z xs x_in y_in z_in x≢y x≢z y≢z = different-fit (x ∷ y ∷ 
     each w (inr (inr (inr i))) = absurd i
 
 pub two_in : (x y : ℕ) (xs : List ℕ) → In x xs → In y xs → (x ≡ y → ⊥) → 2 ≤ length xs
-two_in x y xs x_in y_in x≢y = different-fit (x ∷ y ∷ []) xs (⊎_elim x≢y (λ i. i), (λ i. i, tt)) each
+two_in x y xs x_in y_in x≢y = different_fit (x ∷ y ∷ []) xs (⊎_elim x≢y (λ i. i), (λ i. i, tt)) each
   where
     each : (w : ℕ) → (w ≡ x) ⊎ (w ≡ y) ⊎ ⊥ → In w xs
     each w (inl e) = rw e x_in

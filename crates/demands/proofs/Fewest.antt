@@ -22,7 +22,7 @@ use Rattle.demands.specs.Labelling.{label_at, Labelling, label_count}
 use Rattle.demands.proofs.Equivalence.{joined_equal, joined_through, joined_within}
 use Rattle.demands.proofs.Walk.{Met}
 use Rattle.demands.proofs.Labels.{label_early, label_itself}
-use Rattle.demands.proofs.Distinct.{distinct_has, distinct_of, distinct-different, place_below, place_holds, onto_fit, onto_exact}
+use Rattle.demands.proofs.Distinct.{distinct_has, distinct_of, distinct_different, place_below, place_holds, onto_fit, onto_exact}
 use Rattle.demands.proofs.Crossing.{Crossing}
 use Rattle.demands.proofs.Links.{group_joined, joined_group}
 use Rattle.demands.proofs.Result.{groups, groups_length, cornered}
@@ -81,13 +81,13 @@ module _ (l : List ℤ) (n : ℕ) (v : Valid l n) where
         (label_at labels x, distinct_has (label_at labels x) labels (at_in 0 labels x (omega (arith, labelling.one_each))), within x h ∙ place_holds g fans j)
 
     pub fewest : new_vertices fans ≤ label_count labels
-    fewest = onto_fit fan_of (distinct labels) (distinct fans) (distinct-different fans) every_fan
+    fewest = onto_fit fan_of (distinct labels) (distinct fans) (distinct_different fans) every_fan
 
     pub fewest_same : label_count labels ≡ new_vertices fans → (x y : ℕ) → Corner l x → Corner l y → (label_at labels x ≡ label_at labels y) ↔ (label_at fans x ≡ label_at fans y)
     fewest_same as_few x y h k = (
       label_fan x y h k,
       λ e.
-          onto_exact fan_of (distinct labels) (distinct fans) (distinct-different fans) every_fan (omega arith) (label_at labels x) (label_at labels y)
+          onto_exact fan_of (distinct labels) (distinct fans) (distinct_different fans) every_fan (omega arith) (label_at labels x) (label_at labels y)
           (distinct_has (label_at labels x) labels (at_in 0 labels x (omega (arith, labelling.one_each))))
           (distinct_has (label_at labels y) labels (at_in 0 labels y (omega (arith, labelling.one_each))))
           (within x h ∙ e ∙ sym (within y k)),

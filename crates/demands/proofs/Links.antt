@@ -52,18 +52,18 @@ module _ (J : Use → Bool) (us : List Use) (k : Link) where
   abbrev links_nth : List Use → ℕ → List Link
   links_nth vs i = links_at J us (get_or vs i no_use) (mate_of us (get_or vs i no_use))
 
-  links-nth : (vs : List Use) → In k (links_from J us vs) → (i : ℕ) × (i < length vs) × In k (links_nth vs i)
-  links-nth [] h = absurd h
-  links-nth (u ∷ vs) h = go (in_cases k (links_at J us u (mate_of us u)) (links_from J us vs) h) (links-nth vs)
+  links_nth_lem : (vs : List Use) → In k (links_from J us vs) → (i : ℕ) × (i < length vs) × In k (links_nth vs i)
+  links_nth_lem [] h = absurd h
+  links_nth_lem (u ∷ vs) h = go (in_cases k (links_at J us u (mate_of us u)) (links_from J us vs) h) (links_nth_lem vs)
     where
       go : In k (links_at J us u (mate_of us u)) ⊎ In k (links_from J us vs) → (In k (links_from J us vs) → (i : ℕ) × (i < length vs) × In k (links_nth vs i)) → (i : ℕ) × (i < suc (length vs)) × In k (links_nth (u ∷ vs) i)
       go (inl h) ih = (0, omega arith, h)
       go (inr h) ih = let r = ih h in (suc r.0, omega (arith, r.1), r.2)
 
-  nth-links : (vs : List Use) (i : ℕ) → i < length vs → In k (links_nth vs i) → In k (links_from J us vs)
-  nth-links [] i h m = absurd (omega arith)
-  nth-links (u ∷ vs) zero h m = in_left k (links_at J us u (mate_of us u)) (links_from J us vs) m
-  nth-links (u ∷ vs) (suc i) h m = in_right k (links_at J us u (mate_of us u)) (links_from J us vs) (nth-links vs i (omega arith) m)
+  nth_links : (vs : List Use) (i : ℕ) → i < length vs → In k (links_nth vs i) → In k (links_from J us vs)
+  nth_links [] i h m = absurd (omega arith)
+  nth_links (u ∷ vs) zero h m = in_left k (links_at J us u (mate_of us u)) (links_from J us vs) m
+  nth_links (u ∷ vs) (suc i) h m = in_right k (links_at J us u (mate_of us u)) (links_from J us vs) (nth_links vs i (omega arith) m)
 
   -- a use has links where its mate is another use, later and chosen
   links_of_lem : (u : Use) (m : Mate) → In k (links_at J us u m) → (f : ℕ) × (m ≡ other f) × (u.corner < f) × (J u ≡ true) × In k (links_of u (get_or us f no_use))
@@ -100,7 +100,7 @@ module _ (J : Use → Bool) (l : List ℤ) (ok : Cornered l) where
         two_below = f_below;
         differ = λ q. regular.differs (sym q);
         same_edge = regular.same_edge;
-        two-faces = (mate_other l e (below e e_below)).0 (f, mate);
+        two_faces = (mate_other l e (below e e_below)).0 (f, mate);
         x_is = x_is;
         y_is = y_is;
         same_vertex = ap (vertex_at l) x_is ∙ p ∙ ap (vertex_at l) (sym y_is);
@@ -117,8 +117,8 @@ module _ (J : Use → Bool) (l : List ℤ) (ok : Cornered l) where
         f_is : (use_at l f).corner ≡ f
         f_is = corner_at_lem l f regular.below
 
-        from-same : (p : (use_at l e).from ≡ (use_at l f).from) → vertex_at l e ≡ vertex_at l f
-        from-same p = sym (use_from l e e_below) ∙ p ∙ use_from l f f_below
+        from_same : (p : (use_at l e).from ≡ (use_at l f).from) → vertex_at l e ≡ vertex_at l f
+        from_same p = sym (use_from l e e_below) ∙ p ∙ use_from l f f_below
 
         crossed : ((use_at l e).from ≡ (use_at l f).from → ⊥) → Ends l e f → vertex_at l e ≡ vertex_at l (next l f)
         crossed n (inl p) = absurd (n (use_from l e e_below ∙ p.0 ∙ sym (use_from l f f_below)))
@@ -132,10 +132,10 @@ module _ (J : Use → Bool) (l : List ℤ) (ok : Cornered l) where
 
         go : (b : Bool) → eqb (use_at l e).from (use_at l f).from ≡ b → In k (cond b (straight (use_at l e) (use_at l f)) (crosswise (use_at l e) (use_at l f))) → Met (Crossing J l) k.one k.two
         go true q (inl p) =
-            let v = from-same (eqb-true (use_at l e).from (use_at l f).from q) in
+            let v = from_same (eqb-true (use_at l e).from (use_at l f).from q) in
             (starts, starts, meets chosen earlier k.one k.two starts starts (ones p ∙ e_is) (twos p ∙ f_is) v)
         go true q (inr (inl p)) =
-            let v = from-same (eqb-true (use_at l e).from (use_at l f).from q) in
+            let v = from_same (eqb-true (use_at l e).from (use_at l f).from q) in
             (stops, stops, meets chosen earlier k.one k.two stops stops (ones p) (twos p) (ends_sides l ok e f starts starts f_below ends v))
         go true q (inr (inr p)) = absurd p
         go false q (inl p) =
@@ -149,7 +149,7 @@ module _ (J : Use → Bool) (l : List ℤ) (ok : Cornered l) where
   link_meets : (k : Link) → In k (links J (uses l)) → Met (Crossing J l) k.one k.two
   unfolding links
   link_meets k i =
-      let r = links-nth J (uses l) k (uses l) i in
+      let r = links_nth_lem J (uses l) k (uses l) i in
       let e = r.0 in
       let q = links_of_lem J (uses l) k (use_at l e) (mate_of (uses l) (use_at l e)) r.2 in
       link_of e q.0 (omega (arith, r.1, uses_long l)) q.1 k q.3 (omega (arith, q.2, corner_at_lem l e r.1)) q.4
@@ -168,19 +168,19 @@ module _ (J : Use → Bool) (l : List ℤ) (ok : Cornered l) where
       f_is : f ≡ (use_at l f).corner
       f_is = sym (corner_at_lem l f (below f f_below))
 
-      from-same : vertex_at l e ≡ vertex_at l f → eqb (use_at l e).from (use_at l f).from ≡ true
-      from-same p = eq-eqb (use_at l e).from (use_at l f).from (use_from l e e_below ∙ p ∙ sym (use_from l f f_below))
+      from_same : vertex_at l e ≡ vertex_at l f → eqb (use_at l e).from (use_at l f).from ≡ true
+      from_same p = eq-eqb (use_at l e).from (use_at l f).from (use_from l e e_below ∙ p ∙ sym (use_from l f f_below))
 
-      from-not : vertex_at l e ≡ vertex_at l (next l f) → eqb (use_at l e).from (use_at l f).from ≡ false
-      from-not p =
+      from_not : vertex_at l e ≡ vertex_at l (next l f) → eqb (use_at l e).from (use_at l f).from ≡ false
+      from_not p =
           ne_eqb (use_at l e).from (use_at l f).from
           (λ q. ok.ends_differ f f_below (sym (use_from l f f_below) ∙ sym q ∙ use_from l e e_below ∙ p))
 
       go : (s t : Side) → vertex_by l e s ≡ vertex_by l f t → (k : Link) × In k (links_of (use_at l e) (use_at l f)) × (corner_by l e s ≡ k.one) × (corner_by l f t ≡ k.two)
-      go starts starts p = rw (from-same p) (record { one = (use_at l e).corner; two = (use_at l f).corner }, inl refl, e_is, f_is)
-      go starts stops p = rw (from-not p) (record { one = (use_at l e).corner; two = (use_at l f).next }, inl refl, e_is, refl)
-      go stops starts p = rw (from-not (ends_sides l ok e f stops starts f_below ends p)) (record { one = (use_at l e).next; two = (use_at l f).corner }, inr (inl refl), refl, f_is)
-      go stops stops p = rw (from-same (ends_sides l ok e f stops stops f_below ends p)) (record { one = (use_at l e).next; two = (use_at l f).next }, inr (inl refl), refl, refl)
+      go starts starts p = rw (from_same p) (record { one = (use_at l e).corner; two = (use_at l f).corner }, inl refl, e_is, f_is)
+      go starts stops p = rw (from_not p) (record { one = (use_at l e).corner; two = (use_at l f).next }, inl refl, e_is, refl)
+      go stops starts p = rw (from_not (ends_sides l ok e f stops starts f_below ends p)) (record { one = (use_at l e).next; two = (use_at l f).corner }, inr (inl refl), refl, f_is)
+      go stops stops p = rw (from_same (ends_sides l ok e f stops stops f_below ends p)) (record { one = (use_at l e).next; two = (use_at l f).next }, inr (inl refl), refl, refl)
 
   -- corners that meet, where x's use is the earlier one, are those of a link
   meets_link : {x y : ℕ} {s t : Side} (a : Across l x s y t) → J (use_at l a.one) ≡ true → a.one < a.two → Linking (links J (uses l)) x y
@@ -189,16 +189,16 @@ module _ (J : Use → Bool) (l : List ℤ) (ok : Cornered l) where
       let e = a.one in
       let f = a.two in
       let h : e < length (uses l) = below e a.one_below in
-      let r = (mate_other l e h).1 a.two-faces in
+      let r = (mate_other l e h).1 a.two_faces in
       let regular : Regular l e r.0 = mate_regular l e r.0 h r.1 in
       let g_below : Corner l r.0 = omega (arith, regular.below, uses_long l) in
       let ends : Ends l f e = same_ends l e f a.one_below a.two_below a.same_edge in
-      let is_f : r.0 ≡ f = two_only l ok e r.0 f a.one_below g_below a.two_below a.two-faces (same_ends l e r.0 a.one_below g_below regular.same_edge) ends (λ p. regular.differs (sym p)) a.differ in
+      let is_f : r.0 ≡ f = two_only l ok e r.0 f a.one_below g_below a.two_below a.two_faces (same_ends l e r.0 a.one_below g_below regular.same_edge) ends (λ p. regular.differs (sym p)) a.differ in
       let mate : mate_of (uses l) (use_at l e) ≡ other f = r.1 ∙ ap other is_f in
       let k = link_by e f s t a.one_below a.two_below (ends_back l f e ends) (ap (vertex_at l) (sym a.x_is) ∙ a.same_vertex ∙ ap (vertex_at l) a.y_is) in
       let tested : (ltb (use_at l e).corner f && J (use_at l e)) ≡ true = rw (corner_at_lem l e h, lt-ltb e f earlier) chosen in
       let there : In k.0 (links_at J (uses l) (use_at l e) (other f)) = rw tested k.1 in
-      (k.0, nth-links J (uses l) k.0 (uses l) e h (rw mate there), a.x_is ∙ k.2, a.y_is ∙ k.3)
+      (k.0, nth_links J (uses l) k.0 (uses l) e h (rw mate there), a.x_is ∙ k.2, a.y_is ∙ k.3)
 
   abbrev pub group : ℕ → ℕ
   group x = label_at (groups_of_uses J (uses l)) x

@@ -17,7 +17,7 @@ use Rattle.demands.specs.Renumbered.{Corner, vertex_at, ends, mapped, FirstUse}
 use Rattle.demands.specs.Labelling.{label_at}
 use Rattle.demands.specs.Classed.{Used}
 use Rattle.demands.specs.Counted.{Counted}
-use Rattle.demands.proofs.Distinct.{distinct_has, distinct_of, distinct-different, place_below, place_holds, place_at, distinct_order}
+use Rattle.demands.proofs.Distinct.{distinct_has, distinct_of, distinct_different, place_below, place_holds, place_at, distinct_order}
 
 -- how a list refilled with as many numbers as it has corners comes about
 data Filled : List ℤ → List ℕ → List ℤ → Type 0 where
@@ -103,7 +103,7 @@ module _ (labels : List ℕ) where
       let few : k < length (distinct labels) = omega (arith, number_below x h) in
       let r = distinct_order labels x k h (rw (number_is x h) at b) in
       let y_below : r.0 < length labels = omega (arith, r.1) in
-      (r.0, r.1, number_is r.0 y_below ∙ ap (λ (z : ℕ). place_in z (distinct labels)) r.2 ∙ place_at (distinct labels) k (distinct-different labels) few)
+      (r.0, r.1, number_is r.0 y_below ∙ ap (λ (z : ℕ). place_in z (distinct labels)) r.2 ∙ place_at (distinct labels) k (distinct_different labels) few)
 
   -- every number below the count is that of a corner
   pub number_used : (k : ℕ) → k < new_vertices labels → (x : ℕ) × (x < length labels) × (get_or (new_numbers labels) x 0 ≡ k)
@@ -112,7 +112,7 @@ module _ (labels : List ℕ) where
       let i : In z labels = distinct_of z labels (at_in 0 (distinct labels) k h) in
       let x = place_in z labels in
       let b : x < length labels = place_below z labels i in
-      (x, b, number_is x b ∙ ap (λ (w : ℕ). place_in w (distinct labels)) (place_holds z labels i) ∙ place_at (distinct labels) k (distinct-different labels) h)
+      (x, b, number_is x b ∙ ap (λ (w : ℕ). place_in w (distinct labels)) (place_holds z labels i) ∙ place_at (distinct labels) k (distinct_different labels) h)
 
 module _ (l : List ℤ) (labels : List ℕ) (same : length labels ≡ length (corners l)) where
   numbers_fit : length (new_numbers labels) ≡ length (corners l)
@@ -180,23 +180,23 @@ module _ (l : List ℤ) (labels : List ℕ) (same : length labels ≡ length (co
   Refines = (x y : ℕ) → Corner l x → Corner l y → label_at labels x ≡ label_at labels y → get_or (corners l) x (pos 0) ≡ get_or (corners l) y (pos 0)
 
   -- a map gives the list back exactly when it gives each corner's entry for its new vertex
-  number-back : (m : List ℤ) → Back m (corners l) (new_numbers labels) → mapped m (new_list_of l labels) ≡ l
+  number_back : (m : List ℤ) → Back m (corners l) (new_numbers labels) → mapped m (new_list_of l labels) ≡ l
   unfolding new_list_of
-  number-back m = filled_back m (fill l (new_numbers labels) numbers_fit)
+  number_back m = filled_back m (fill l (new_numbers labels) numbers_fit)
 
-  pub back-number : (m : List ℤ) → mapped m (new_list_of l labels) ≡ l → (x : ℕ) → Corner l x → get_or m (get_or (new_numbers labels) x 0) (pos 0) ≡ get_or (corners l) x (pos 0)
+  pub back_number : (m : List ℤ) → mapped m (new_list_of l labels) ≡ l → (x : ℕ) → Corner l x → get_or m (get_or (new_numbers labels) x 0) (pos 0) ≡ get_or (corners l) x (pos 0)
   unfolding new_list_of
-  back-number m e = back_filled m (fill l (new_numbers labels) numbers_fit) e
+  back_number m e = back_filled m (fill l (new_numbers labels) numbers_fit) e
 
   pub map_back : (mapped (map_of l labels) (new_list_of l labels) ≡ l) ↔ Refines
   map_back = (one_entry, gives_back)
     where
       one_entry : mapped (map_of l labels) (new_list_of l labels) ≡ l → Refines
       one_entry e x y x_below y_below p =
-          sym (back-number (map_of l labels) e x x_below) ∙
+          sym (back_number (map_of l labels) e x x_below) ∙
           ap (λ (k : ℕ). get_or (map_of l labels) k (pos 0)) (same_number labels x y (omega arith) (omega arith) p) ∙
-          back-number (map_of l labels) e y y_below
+          back_number (map_of l labels) e y y_below
 
       gives_back : Refines → mapped (map_of l labels) (new_list_of l labels) ≡ l
       gives_back refines =
-          number-back (map_of l labels) (λ x h. map_entry x h ∙ refines (earliest x h) x (omega (arith, earliest_below x h)) h (earliest_label x h))
+          number_back (map_of l labels) (λ x h. map_entry x h ∙ refines (earliest x h) x (omega (arith, earliest_below x h)) h (earliest_label x h))

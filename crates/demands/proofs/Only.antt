@@ -17,17 +17,17 @@ use Rattle.renumber.proofs.Sizes.{map-length}
 use Rattle.renumber.specs.Renumber.{new_list_of, new_vertices, map_of}
 use Rattle.demands.specs.Renumbered.{Corner, vertex_at, ends, mapped, FirstUse}
 use Rattle.demands.specs.Labelling.{label_at}
-use Rattle.demands.proofs.Numbering.{new_ends, new_corners_length, new_entry, new_vertex, first_use, same_number, same_label, number_used, back-number}
+use Rattle.demands.proofs.Numbering.{new_ends, new_corners_length, new_entry, new_vertex, first_use, same_number, same_label, number_used, back_number}
 
 -- a list is known by where -1 stands and by its corners
-same-list : (l k : List ℤ) → ends l ≡ ends k → corners l ≡ corners k → l ≡ k
-same-list [] [] e c = refl
-same-list [] (y ∷ ys) e c = cc
-same-list (x ∷ xs) [] e c = cc
-same-list (x ∷ xs) (y ∷ ys) e c =
+same_list : (l k : List ℤ) → ends l ≡ ends k → corners l ≡ corners k → l ≡ k
+same_list [] [] e c = refl
+same_list [] (y ∷ ys) e c = cc
+same_list (x ∷ xs) [] e c = cc
+same_list (x ∷ xs) (y ∷ ys) e c =
     let first : is_end x ≡ is_end y = cc in
     let rest : ends xs ≡ ends ys = cc in
-    go (is_end x) refl (is_end y) refl first c (same-list xs ys rest)
+    go (is_end x) refl (is_end y) refl first c (same_list xs ys rest)
   where
     go : (a : Bool) → is_end x ≡ a → (b : Bool) → is_end y ≡ b → a ≡ b → cond a (corners xs) (x ∷ corners xs) ≡ cond b (corners ys) (y ∷ corners ys) → (corners xs ≡ corners ys → xs ≡ ys) → x ∷ xs ≡ y ∷ ys
     go true p true q r c ih =
@@ -77,7 +77,7 @@ order_only c f g f_order g_order both (suc b) x h k = go (ltb (f x) (g x)) refl 
 module _ (l : List ℤ) (labels : List ℕ) (same : length labels ≡ length (corners l)) where
   -- the list numbered afresh is the only one
   pub new_only : (k : List ℤ) → ends k ≡ ends l → ((x : ℕ) → Corner l x → get_or (corners k) x (pos 0) ≡ pos (vertex_at k x)) → FirstUse k → ((x y : ℕ) → Corner l x → Corner l y → (vertex_at k x ≡ vertex_at k y) ↔ (label_at labels x ≡ label_at labels y)) → k ≡ new_list_of l labels
-  new_only k k_ends k_entries k_order k_same = same-list k new (k_ends ∙ sym (new_ends l labels same)) (ext_get_or (pos 0) (corners k) (corners new) (k_long ∙ sym (new_corners_length l labels same)) each)
+  new_only k k_ends k_entries k_order k_same = same_list k new (k_ends ∙ sym (new_ends l labels same)) (ext_get_or (pos 0) (corners k) (corners new) (k_long ∙ sym (new_corners_length l labels same)) each)
     where
       new : List ℤ
       new = new_list_of l labels
@@ -110,5 +110,5 @@ module _ (l : List ℤ) (labels : List ℕ) (same : length labels ≡ length (co
       (λ v h.
       let r = number_used labels v (omega arith) in
       let b : Corner l r.0 = omega (arith, r.1) in
-      ap (λ (k : ℕ). get_or m k (pos 0)) (sym r.2) ∙ back-number l labels same m back r.0 b ∙
-      sym (back-number l labels same (map_of l labels) own r.0 b) ∙ ap (λ (k : ℕ). get_or (map_of l labels) k (pos 0)) r.2)
+      ap (λ (k : ℕ). get_or m k (pos 0)) (sym r.2) ∙ back_number l labels same m back r.0 b ∙
+      sym (back_number l labels same (map_of l labels) own r.0 b) ∙ ap (λ (k : ℕ). get_or (map_of l labels) k (pos 0)) r.2)

@@ -82,7 +82,7 @@ module _ (J : Use → Bool) (l : List ℤ) (n : ℕ) (v : Valid l n) where
   crowded e s h many y t c =
       let a = c.across in
       let is_e : a.one ≡ e = side_once l cornered a.one e s a.one_below h (sym a.x_is) in
-      let two : faces_on l (use_at l e).from (use_at l e).to ≡ 2 = rw is_e at a.two-faces in
+      let two : faces_on l (use_at l e).from (use_at l e).to ≡ 2 = rw is_e at a.two_faces in
       omega arith
 
   -- the use that starts at corner e runs between the new vertices a and b: by its side its end on a
@@ -166,7 +166,7 @@ module _ (J : Use → Bool) (l : List ℤ) (n : ℕ) (v : Valid l n) where
           two_below = a.two_below;
           differ = a.differ;
           same_edge = a.same_edge;
-          two-faces = a.two-faces;
+          two_faces = a.two_faces;
           x_is = refl;
           y_is = refl;
           same_vertex = ends_sides l cornered a.one a.two s t a.two_below ends (ap (vertex_at l) (sym a.x_is) ∙ a.same_vertex ∙ ap (vertex_at l) a.y_is);
@@ -202,7 +202,7 @@ module _ (J : Use → Bool) (l : List ℤ) (n : ℕ) (v : Valid l n) where
         two_below = f_below;
         differ = c.across.differ;
         same_edge = on;
-        two-faces = omega (arith, result_edges a b, sharing_faces result a b);
+        two_faces = omega (arith, result_edges a b, sharing_faces result a b);
         x_is = x_is;
         y_is = y_is;
         same_vertex = crossing_new c;

@@ -14,7 +14,7 @@ use lib.ListN.{length, get_or, length-map, length-append, get_or-map, get_or-app
 use lib.Seq.{get_or-append-add}
 use Rattle.list.specs.Faces.{is_end, push, runs, corners, num, vertices}
 use Rattle.list.specs.Check.{ValidFace, Valid}
-use Rattle.list.proofs.Checking.{corners-fit}
+use Rattle.list.proofs.Checking.{corners_fit}
 use Rattle.order.proofs.Lists.{map-append}
 use Rattle.edges.specs.Uses.{Use, uses_to_end, uses_of_face, uses_from, uses, no_use}
 use Rattle.edges.specs.Table.{next_words}
@@ -23,7 +23,7 @@ use Rattle.groups.specs.Distinct.{distinct}
 use Rattle.renumber.proofs.Sizes.{new_list_length}
 use Rattle.renumber.specs.Renumber.{new_numbers, new_list_of, new_vertices}
 use Rattle.demands.specs.Renumbered.{Corner, ends}
-use Rattle.demands.proofs.Distinct.{different-fit, distinct-different, distinct_of}
+use Rattle.demands.proofs.Distinct.{different_fit, distinct_different, distinct_of}
 use Rattle.demands.proofs.Numbering.{new_ends, new_entry, number_below, same_label, Refines}
 use Rattle.demands.proofs.Corners.{next}
 
@@ -107,7 +107,7 @@ module _ (l : List ℤ) (n : ℕ) (v : Valid l n) (labels : List ℕ) (same : le
   new_lengths = same_lengths new l (new_ends l labels same)
 
   pub new_few : new_vertices labels ≤ length (corners l)
-  new_few = omega (arith, different-fit (distinct labels) labels (distinct-different labels) (λ x i. distinct_of x labels i))
+  new_few = omega (arith, different_fit (distinct labels) labels (distinct_different labels) (λ x i. distinct_of x labels i))
 
   module _ (k : ℕ) (h : k < length (runs new)) where
     h' : k < length (runs l)
@@ -147,6 +147,6 @@ module _ (l : List ℤ) (n : ℕ) (v : Valid l n) (labels : List ℕ) (same : le
   pub new_valid : Refines l labels same → Valid new (new_vertices labels)
   new_valid refines = record {
     few_entries = rw (new_list_length l labels) v.few_entries;
-    few_vertices = omega (arith, new_few, corners-fit l, v.few_entries);
+    few_vertices = omega (arith, new_few, corners_fit l, v.few_entries);
     each_face = λ k h. face_valid k h refines;
   }

@@ -22,7 +22,7 @@ pub record Across (l : List ℤ) (x : ℕ) (s : Side) (y : ℕ) (t : Side) : Typ
   pub two_below : Corner l two
   pub differ : one ≡ two → ⊥
   pub same_edge : on_edge (use_at l one).from (use_at l one).to (use_at l two) ≡ true
-  pub two-faces : faces_on l (use_at l one).from (use_at l one).to ≡ 2
+  pub two_faces : faces_on l (use_at l one).from (use_at l one).to ≡ 2
   pub x_is : x ≡ corner_by l one s
   pub y_is : y ≡ corner_by l two t
   pub same_vertex : vertex_at l x ≡ vertex_at l y

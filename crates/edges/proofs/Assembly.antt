@@ -14,7 +14,7 @@ use Rattle.list.specs.Limits.{max_vertices}
 use Rattle.list.specs.Check.{Valid}
 use Rattle.order.specs.Choose.{choose, count, up_from}
 use Rattle.order.specs.Sort.{part, Kept, digit_is, key_at, KeysBelow}
-use Rattle.order.proofs.Lists.{all_in, choose-same, choose-map, up_from_in, from-table}
+use Rattle.order.proofs.Lists.{all_in, choose_same, choose-map, up_from_in, from_table}
 use Rattle.order.proofs.Parts.{length_part, get_d_part, part_add}
 use Rattle.mates.specs.Mates.{mate_among, mate_word, starts_many}
 use Rattle.mates.specs.Matching.{same_key, word_by, starts_by, RightAt}
@@ -50,7 +50,7 @@ module _ (l : List ℤ) (n : ℕ) (v : Valid l n) where
   key_shares : (e : ℕ) → e < length (uses l) → same_key ks e ≡ sharing l (use_at l e).from (use_at l e).to
   key_shares e h =
       rw (length-map (uses l) key_of)
-      (choose-same (digit_is (key_at ks) (key_at ks e)) (λ (f : ℕ). on_edge (use_at l e).from (use_at l e).to (use_at l f)) (up_from 0 (length (uses l)))
+      (choose_same (digit_is (key_at ks) (key_at ks e)) (λ (f : ℕ). on_edge (use_at l e).from (use_at l e).to (use_at l f)) (up_from 0 (length (uses l)))
       (all_in (λ (f : ℕ). digit_is (key_at ks) (key_at ks e) f ≡ on_edge (use_at l e).from (use_at l e).to (use_at l f)) (up_from 0 (length (uses l)))
       (λ f i.
       let q : f < length (uses l) = omega (arith, up_from_in 0 (length (uses l)) f i) in
@@ -65,11 +65,11 @@ module _ (l : List ℤ) (n : ℕ) (v : Valid l n) where
   pub key_singular : count (starts_by ks) (up_from 0 (length (uses l))) ≡ singular_edge_count l
   key_singular =
       ap length
-      (choose-same (starts_by ks) (λ (e : ℕ). starts_singular (uses l) (use_at l e)) (up_from 0 (length (uses l)))
+      (choose_same (starts_by ks) (λ (e : ℕ). starts_singular (uses l) (use_at l e)) (up_from 0 (length (uses l)))
       (all_in (λ (e : ℕ). starts_by ks e ≡ starts_singular (uses l) (use_at l e)) (up_from 0 (length (uses l))) (λ e i. key_starts e (omega (arith, up_from_in 0 (length (uses l)) e i))))) ∙
       sym (length-map (choose (λ (e : ℕ). starts_singular (uses l) (use_at l e)) (up_from 0 (length (uses l)))) (use_at l)) ∙
       ap length (sym (choose-map (starts_singular (uses l)) (use_at l) (up_from 0 (length (uses l))))) ∙
-      ap (λ (us : List Use). length (choose (starts_singular (uses l)) us)) (from-table no_use (uses l))
+      ap (λ (us : List Use). length (choose (starts_singular (uses l)) us)) (from_table no_use (uses l))
 
 -- both vertices of each key written are below the vertex count
 pub keys_below : (l : List ℤ) (n c : ℕ) (w : List ℕ) → Valid l n → length (uses l) ≡ c → part 0 c w ≡ map key_of (uses l) → KeysBelow c n w

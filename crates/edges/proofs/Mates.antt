@@ -16,7 +16,7 @@ use lib.Dec.{eqb}
 use lib.IntN.{ℤ}
 use lib.ListN.{length, length-map}
 use Rattle.order.specs.Choose.{choose, All, up_from}
-use Rattle.order.proofs.Lists.{In, all_in, in_choose, in_chosen, choose-map, in_up_from, up_from_in, Rising, rising_up_from, rising_choose, from-table}
+use Rattle.order.proofs.Lists.{In, all_in, in_choose, in_chosen, choose-map, in_up_from, up_from_in, Rising, rising_up_from, rising_choose, from_table}
 use Rattle.mates.specs.Mates.{Mate, alone, other, many, mate_among, mate_word}
 use Rattle.edges.specs.Uses.{Use, uses, on_edge, uses_on, faces_on, corners_of, mate_of, no_use, use_at}
 use Rattle.edges.proofs.Uses.{corner_at_lem}
@@ -34,15 +34,15 @@ faces_at l e = faces_on l (use_at l e).from (use_at l e).to
 abbrev pub word : List ℤ → ℕ → ℕ
 word l e = mate_word (length (uses l)) e (mate l e)
 
-corners-back : (g : ℕ → Use) (es : List ℕ) → All (λ (e : ℕ). (g e).corner ≡ e) es → corners_of (map g es) ≡ es
-corners-back g [] a = refl
-corners-back g (e ∷ es) a = rw a.0 (ap (λ (l : List ℕ). e ∷ l) (corners-back g es a.1))
+corners_back : (g : ℕ → Use) (es : List ℕ) → All (λ (e : ℕ). (g e).corner ≡ e) es → corners_of (map g es) ≡ es
+corners_back g [] a = refl
+corners_back g (e ∷ es) a = rw a.0 (ap (λ (l : List ℕ). e ∷ l) (corners_back g es a.1))
 
 pub sharing_is : (l : List ℤ) (a b : ℕ) → corners_of (uses_on (uses l) a b) ≡ sharing l a b
 sharing_is l a b =
-    ap (λ (us : List Use). corners_of (choose (on_edge a b) us)) (sym (from-table no_use (uses l))) ∙
+    ap (λ (us : List Use). corners_of (choose (on_edge a b) us)) (sym (from_table no_use (uses l))) ∙
     ap corners_of (choose-map (on_edge a b) (use_at l) (up_from 0 (length (uses l)))) ∙
-    corners-back (use_at l) (sharing l a b)
+    corners_back (use_at l) (sharing l a b)
     (all_in (λ (e : ℕ). (use_at l e).corner ≡ e) (sharing l a b) (λ e i. corner_at_lem l e (omega (arith, up_from_in 0 (length (uses l)) e (in_chosen (λ (f : ℕ). on_edge a b (use_at l f)) e (up_from 0 (length (uses l))) i).0))))
 
 pub sharing_faces : (l : List ℤ) (a b : ℕ) → length (sharing l a b) ≡ faces_on l a b

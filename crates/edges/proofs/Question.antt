@@ -18,7 +18,7 @@ use Rattle.list.specs.Faces.{runs, num, vertices}
 use Rattle.list.specs.Check.{check_of}
 use Rattle.list.specs.declared.Cursor.{Cursor}
 use Rattle.list.proofs.Runs.{Stepped}
-use Rattle.list.proofs.Checking.{corners-fit}
+use Rattle.list.proofs.Checking.{corners_fit}
 use Rattle.order.specs.Choose.{choose}
 use Rattle.edges.specs.Uses.{Use, uses_of_face, uses_from, uses, is_edge, on_edge, uses_on, faces_on, no_use}
 use Rattle.edges.specs.Table.{is_index, is_pair, edge_answer, edge_of}
@@ -115,7 +115,7 @@ module _ (l : List ℤ) (a b i : ℕ) where
       omega (arith, h)
 
   pub asked_few : (k : ℕ) → Asked l a b i k → k ≤ length l
-  asked_few k h = omega (arith, h, choose_few (on_edge a b) (uses l), uses_long l, corners-fit l)
+  asked_few k h = omega (arith, h, choose_few (on_edge a b) (uses l), uses_long l, corners_fit l)
 
 -- the answer: the check's refusal, then that of the pair, then the count
 module _ (l : List ℤ) (n : ℕ) (a b : ℤ) where

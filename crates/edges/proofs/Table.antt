@@ -95,8 +95,8 @@ module _ (l : List ℤ) where
     pub table_one : (get_or (table_of l) (2 * c + e) 0 ≡ e) ↔ (faces_at l e ≡ 1)
     table_one = rw table_mate (λ q. (mate_alone l e h).0 (word_alone l e h q), λ q. ap (mate_word c e) ((mate_alone l e h).1 q))
 
-    pub table-two : ((get_or (table_of l) (2 * c + e) 0 ≡ e → ⊥) × (get_or (table_of l) (2 * c + e) 0 ≡ c → ⊥)) ↔ (faces_at l e ≡ 2)
-    table-two = rw table_mate (λ q. (mate_other l e h).0 (word l e, word_other l e h q.0 q.1), λ q. regular ((mate_other l e h).1 q))
+    pub table_two : ((get_or (table_of l) (2 * c + e) 0 ≡ e → ⊥) × (get_or (table_of l) (2 * c + e) 0 ≡ c → ⊥)) ↔ (faces_at l e ≡ 2)
+    table_two = rw table_mate (λ q. (mate_other l e h).0 (word l e, word_other l e h q.0 q.1), λ q. regular ((mate_other l e h).1 q))
       where
         regular : (f : ℕ) × (mate l e ≡ other f) → (word l e ≡ e → ⊥) × (word l e ≡ c → ⊥)
         regular m =

@@ -48,18 +48,18 @@ pub from_face : (c : ℕ) (vs : List ℕ) → vertex_words (uses_of_face c vs) �
 from_face c [] = refl
 from_face c (v ∷ vs) = from_to_end c v c v vs
 
-from-runs : (c : ℕ) (rs : List (List ℤ)) → vertex_words (uses_from c rs) ≡ vertices (joined rs)
-from-runs c [] = refl
-from-runs c (r ∷ rs) =
+from_runs : (c : ℕ) (rs : List (List ℤ)) → vertex_words (uses_from c rs) ≡ vertices (joined rs)
+from_runs c [] = refl
+from_runs c (r ∷ rs) =
     map-append (λ (u : Use). u.from) (uses_of_face c (vertices r)) (uses_from (c + length r) rs) ∙
-    rw (from_face c (vertices r), from-runs (c + length r) rs) (sym (map-append num r (joined rs)))
+    rw (from_face c (vertices r), from_runs (c + length r) rs) (sym (map-append num r (joined rs)))
 
-pub from-corners : (l : List ℤ) → vertex_words (uses l) ≡ vertices (corners l)
-from-corners l = rw (corners_joined l) (from-runs 0 (runs l))
+pub from_corners : (l : List ℤ) → vertex_words (uses l) ≡ vertices (corners l)
+from_corners l = rw (corners_joined l) (from_runs 0 (runs l))
 
 -- one use for each corner
 pub uses_long : (l : List ℤ) → length (uses l) ≡ length (corners l)
-uses_long l = sym (length-map (uses l) (λ (u : Use). u.from)) ∙ ap length (from-corners l) ∙ length-map (corners l) num
+uses_long l = sym (length-map (uses l) (λ (u : Use). u.from)) ∙ ap length (from_corners l) ∙ length-map (corners l) num
 
 pub uses_face_long : (c : ℕ) (vs : List ℕ) → length (uses_of_face c vs) ≡ length vs
 uses_face_long c vs = sym (length-map (uses_of_face c vs) (λ (u : Use). u.from)) ∙ ap length (from_face c vs)
@@ -90,7 +90,7 @@ module _ (l : List ℤ) (e : ℕ) (h : e < length (uses l)) where
 
 pub from_at : (l : List ℤ) (e : ℕ) → (use_at l e).from ≡ num (get_or (corners l) e (pos 0))
 from_at l e =
-    sym (get_or-map (λ (u : Use). u.from) (uses l) e no_use) ∙ ap (λ (xs : List ℕ). get_or xs e 0) (from-corners l) ∙ get_or-map num (corners l) e (pos 0)
+    sym (get_or-map (λ (u : Use). u.from) (uses l) e no_use) ∙ ap (λ (xs : List ℕ). get_or xs e 0) (from_corners l) ∙ get_or-map num (corners l) e (pos 0)
 
 -- the uses of one face, by their places in it
 

@@ -16,7 +16,7 @@ use Rattle.list.specs.Check.{ValidFace, Valid}
 use Rattle.list.specs.declared.Cursor.{Cursor}
 use Rattle.list.proofs.Runs.{Stepped}
 use Rattle.list.proofs.Repeats.{vertices_long}
-use Rattle.list.proofs.Checking.{corners-fit}
+use Rattle.list.proofs.Checking.{corners_fit}
 use Rattle.order.specs.Sort.{part}
 use Rattle.order.proofs.Lists.{map-append}
 use Rattle.order.proofs.Parts.{part_add, kept_part}
@@ -96,7 +96,7 @@ module _ (n : ℕ) (l : List ℤ) (i at : ℕ) (d : drop i l ≡ []) (W : Walkin
   written_done g b w h = sym (append-nil (part b at w)) ∙ (rw d at h)
 
 pub few_corners : (l : List ℤ) (n : ℕ) → Valid l n → length (uses l) ≤ max_entries
-few_corners l n v = omega (arith, uses_long l, corners-fit l, v.few_entries)
+few_corners l n v = omega (arith, uses_long l, corners_fit l, v.few_entries)
 
 -- the keys and the corners' words, in two blocks of c words
 

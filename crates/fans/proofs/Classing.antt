@@ -11,7 +11,7 @@ use lib.IntN.{ℤ}
 use lib.ListN.{length, get_or, take, drop, length-map, drop_of_length-le}
 use lib.Seq.{drop-cons, ext_get_or}
 use Rattle.order.specs.Choose.{up_from}
-use Rattle.order.proofs.Lists.{all_in, choose_some, choose_none, choose-same, get_or-mapped, length-up_from, get_or-up_from, in_up_from, up_from_in}
+use Rattle.order.proofs.Lists.{all_in, choose_some, choose_none, choose_same, get_or-mapped, length-up_from, get_or-up_from, in_up_from, up_from_in}
 use Rattle.mates.specs.Mates.{mate_word}
 use Rattle.edges.specs.Uses.{Use, uses, is_boundary, is_singular, use_at, no_use}
 use Rattle.edges.specs.Table.{table_of}
@@ -37,13 +37,13 @@ module _ (l : List ℤ) (n : ℕ) where
   unfolding classes_of
   classes_at v h = get_or-mapped (class_of l) (up_to n) v 0 0 (rw length-up_from h) ∙ ap (class_of l) (get_or-up_from 0 n v 0 h ∙ zero-add v)
 
-labels-pick : (v : ℕ) (q : ℕ → Bool) (us : List Use) (labels : List ℕ) (e : ℕ) → length us ≡ length labels → ((i : ℕ) → i < length us → q (e + i) ≡ eqb v (get_or us i no_use).from) → labels_at v us labels ≡ pick q e labels
-labels-pick v q [] [] e n f = refl
-labels-pick v q [] (x ∷ xs) e n f = absurd (omega arith)
-labels-pick v q (u ∷ us) [] e n f = absurd (omega arith)
-labels-pick v q (u ∷ us) (x ∷ xs) e n f =
+labels_pick : (v : ℕ) (q : ℕ → Bool) (us : List Use) (labels : List ℕ) (e : ℕ) → length us ≡ length labels → ((i : ℕ) → i < length us → q (e + i) ≡ eqb v (get_or us i no_use).from) → labels_at v us labels ≡ pick q e labels
+labels_pick v q [] [] e n f = refl
+labels_pick v q [] (x ∷ xs) e n f = absurd (omega arith)
+labels_pick v q (u ∷ us) [] e n f = absurd (omega arith)
+labels_pick v q (u ∷ us) (x ∷ xs) e n f =
     let here : q e ≡ eqb v u.from = rw add-zero at (f 0 (omega arith)) in
-    rw (here, labels-pick v q us xs (suc e) (omega arith) (λ i h. rw (suc-add e i, ← add-suc e i) (f (suc i) (omega arith))))
+    rw (here, labels_pick v q us xs (suc e) (omega arith) (λ i h. rw (suc-add e i, ← add-suc e i) (f (suc i) (omega arith))))
 
 -- a vertex with a face is the vertex of some corner, one without is the vertex of none
 pub has_corner : (us : List Use) (v : ℕ) → has_face us v ≡ true → (i : ℕ) × (i < length us) × (v ≡ (get_or us i no_use).from)
@@ -107,13 +107,13 @@ module _ (l : List ℤ) (w : List ℕ) (front : take (3 * length (uses l)) w ≡
   roots_are : (v : ℕ) → roots_on w c v 0 c ≡ length (roots_in (on v) (fan_labels l) 0 c)
   roots_are v =
       ap length
-      (choose-same (is_root_on w c v) (λ (i : ℕ). eqb (at (fan_labels l) i) i && on v i) (up_from 0 c)
+      (choose_same (is_root_on w c v) (λ (i : ℕ). eqb (at (fan_labels l) i) i && on v i) (up_from 0 c)
       (all_in (λ (i : ℕ). is_root_on w c v i ≡ (eqb (at (fan_labels l) i) i && on v i)) (up_from 0 c) (λ i a. let h : i < c = omega (arith, up_from_in 0 c i a) in rw (root_is i h, vertex_word i h))))
 
   fans_are : (v : ℕ) → fans_at l v ≡ roots_on w c v 0 c
   unfolding fans_at
   fans_are v =
-      ap (λ (xs : List ℕ). length (distinct xs)) (labels-pick v (on v) (uses l) (fan_labels l) 0 (sym fans_long) (λ i h. let z : 0 + i ≡ i = omega arith in rw z)) ∙
+      ap (λ (xs : List ℕ). length (distinct xs)) (labels_pick v (on v) (uses l) (fan_labels l) 0 (sym fans_long) (λ i h. let z : 0 + i ≡ i = omega arith in rw z)) ∙
       ap length (distinct_roots (on v) (fan_labels l) (forest_earliest w (3 * c) (fan_labels l) F) (λ i h. ap (eqb v) (fan_vertex l i h))) ∙
       rw fans_long (sym (roots_are v))
 

@@ -7,7 +7,7 @@ use lib.IntN.{ℤ}
 use lib.ListN.{length, take}
 use Rattle.list.specs.Faces.{corners}
 use Rattle.list.specs.Check.{Valid}
-use Rattle.list.proofs.Checking.{corners-fit}
+use Rattle.list.proofs.Checking.{corners_fit}
 use Rattle.edges.specs.Uses.{uses}
 use Rattle.edges.specs.Table.{table_of}
 use Rattle.edges.proofs.Uses.{uses_long}
@@ -17,7 +17,7 @@ use Rattle.groups.proofs.TableLinks.{table_words, table_fans}
 
 module _ (l : List ℤ) (n c : ℕ) (ok : Valid l n) (q : c ≡ length (corners l)) where
   pub few_corners : c < 2 ^ 30
-  few_corners = omega (arith, corners-fit l, ok.few_entries)
+  few_corners = omega (arith, corners_fit l, ok.few_entries)
 
   uses_are : c ≡ length (uses l)
   uses_are = q ∙ sym (uses_long l)

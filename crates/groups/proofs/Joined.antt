@@ -13,14 +13,14 @@ use Rattle.order.proofs.Lists.{get_or-mapped}
 use Rattle.groups.specs.Groups.{Link, merge, merge_all, replaced}
 use Rattle.groups.specs.Forest.{at, link, Forest, Descends, Rises, Climbs, Regrouped, links_across}
 
-replaced-from : (b a : ℕ) → replaced b a b ≡ a
-replaced-from b a = rw (eq-eqb b b refl)
+replaced_from : (b a : ℕ) → replaced b a b ≡ a
+replaced_from b a = rw (eq-eqb b b refl)
 
 replaced_other : (b a x : ℕ) → (x ≡ b → ⊥) → replaced b a x ≡ x
 replaced_other b a x n = rw (ne_eqb x b n)
 
-replaced-to : (b a : ℕ) → replaced b a a ≡ a
-replaced-to b a = go (eqb a b)
+replaced_to : (b a : ℕ) → replaced b a a ≡ a
+replaced_to b a = go (eqb a b)
   where
     go : (t : Bool) → cond t a a ≡ a
     go true = refl
@@ -43,14 +43,14 @@ module _ (w : List ℕ) (p : ℕ) (labels : List ℕ) (F : Forest w p labels) (a
 
   same : (i : ℕ) → i < length labels → (t : Bool) → eqb i b ≡ t → at (map (replaced b a) labels) (at (set w (p + b) a) (p + i)) ≡ at (map (replaced b a) labels) i
   same i h true e =
-      rw (word_same i (eqb-true i b e), merged_at i h, merged_at a (omega arith), ra, eqb-true i b e, rb, replaced-from b a, replaced-to b a)
+      rw (word_same i (eqb-true i b e), merged_at i h, merged_at a (omega arith), ra, eqb-true i b e, rb, replaced_from b a, replaced_to b a)
   same i h false e =
       let d : at w (p + i) ≤ i = F.down i h in
       rw (word_other i (eqb-false i b e), merged_at i h, merged_at (at w (p + i)) (omega arith), F.same i h)
 
   root : (i : ℕ) → i < length labels → (t : Bool) → eqb i b ≡ t → at (set w (p + b) a) (p + i) ≡ i → at (map (replaced b a) labels) i ≡ i
   root i h true e r =
-      merged_at i h ∙ rw (eqb-true i b e, rb, replaced-from b a) (omega (arith, word_same i (eqb-true i b e), eqb-true i b e))
+      merged_at i h ∙ rw (eqb-true i b e, rb, replaced_from b a) (omega (arith, word_same i (eqb-true i b e), eqb-true i b e))
   root i h false e r =
       let q : at labels i ≡ i = F.root i h (sym (word_other i (eqb-false i b e)) ∙ r) in
       merged_at i h ∙ rw q (replaced_other b a i (eqb-false i b e))

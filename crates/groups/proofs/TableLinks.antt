@@ -46,17 +46,17 @@ module _ (l : List ℤ) where
           rw (lt-ltb f c R.below, across_uses e f h R.below, corner_at_lem l e h)
       go many q = rw (lt-ltb e c h, le-ltb c c (omega arith))
 
-  from-uses : (n e : ℕ) → e + n ≡ c → links_from_corner T c e n ≡ links_from every_edge (uses l) (drop e (uses l))
-  from-uses zero e h = rw (drop_of_length-le (uses l) {i = e} (omega arith))
-  from-uses (suc n) e h = rw (drop-cons (uses l) e no_use (omega arith), corner_uses e (omega arith), from-uses n (suc e) (omega arith))
+  from_uses : (n e : ℕ) → e + n ≡ c → links_from_corner T c e n ≡ links_from every_edge (uses l) (drop e (uses l))
+  from_uses zero e h = rw (drop_of_length-le (uses l) {i = e} (omega arith))
+  from_uses (suc n) e h = rw (drop-cons (uses l) e no_use (omega arith), corner_uses e (omega arith), from_uses n (suc e) (omega arith))
 
-  pub table-links : table_links (table_of l) (length (uses l)) ≡ links every_edge (uses l)
+  pub table_links_lem : table_links (table_of l) (length (uses l)) ≡ links every_edge (uses l)
   unfolding table_links links
-  table-links = from-uses c 0 (omega arith)
+  table_links_lem = from_uses c 0 (omega arith)
 
   pub table_fans : labels_of (length (uses l)) (table_links (table_of l) (length (uses l))) ≡ fan_labels l
   unfolding fan_labels
-  table_fans = rw table-links
+  table_fans = rw table_links_lem
 
 -- labels that lie on their corners' vertices still do after a link of two corners on one vertex; at_vertex gives the vertex of a corner
 module _ (at_vertex : ℕ → ℕ) where
@@ -81,8 +81,8 @@ module _ (at_vertex : ℕ → ℕ) where
           let q : max a b ≡ a = omega arith in
           rw (p, q) (sym e)
 
-  merge-vertices : (labels : List ℕ) (k : Link) → SameVertex (length labels) k → OnVertices labels → OnVertices (merge labels k)
-  merge-vertices labels k s o i h =
+  merge_vertices : (labels : List ℕ) (k : Link) → SameVertex (length labels) k → OnVertices labels → OnVertices (merge labels k)
+  merge_vertices labels k s o i h =
       let a = at labels k.one in
       let b = at labels k.two in
       let m : i < length labels = rw (length-map labels (replaced (max a b) (min a b))) at h in
@@ -93,15 +93,15 @@ module _ (at_vertex : ℕ → ℕ) where
       go a b x e d true q = e ∙ ap at_vertex (sym (eqb-true x (max a b) q)) ∙ d
       go a b x e d false q = d
 
-  merge_all-vertices : (c : ℕ) (ks : List Link) (labels : List ℕ) → length labels ≡ c → All (SameVertex c) ks → OnVertices labels → OnVertices (merge_all labels ks)
-  merge_all-vertices c [] labels n a o = o
-  merge_all-vertices c (k ∷ ks) labels n a o =
-      merge_all-vertices c ks (merge labels k) (length-map labels (replaced (max (at labels k.one) (at labels k.two)) (min (at labels k.one) (at labels k.two))) ∙ n) a.1 (merge-vertices labels k (rw n a.0) o)
+  merge_all_vertices : (c : ℕ) (ks : List Link) (labels : List ℕ) → length labels ≡ c → All (SameVertex c) ks → OnVertices labels → OnVertices (merge_all labels ks)
+  merge_all_vertices c [] labels n a o = o
+  merge_all_vertices c (k ∷ ks) labels n a o =
+      merge_all_vertices c ks (merge labels k) (length-map labels (replaced (max (at labels k.one) (at labels k.two)) (min (at labels k.one) (at labels k.two))) ∙ n) a.1 (merge_vertices labels k (rw n a.0) o)
 
-  labels-vertices : (c : ℕ) (ks : List Link) → All (SameVertex c) ks → OnVertices (labels_of c ks)
+  labels_vertices : (c : ℕ) (ks : List Link) → All (SameVertex c) ks → OnVertices (labels_of c ks)
   unfolding labels_of
-  labels-vertices c ks a =
-      merge_all-vertices c ks (up_to c) (length-up_from 0 c) a (λ i h. ap at_vertex (get_or-up_from 0 c i 0 (rw length-up_from at h) ∙ omega arith))
+  labels_vertices c ks a =
+      merge_all_vertices c ks (up_to c) (length-up_from 0 c) a (λ i h. ap at_vertex (get_or-up_from 0 c i 0 (rw length-up_from at h) ∙ omega arith))
 
 module _ (l : List ℤ) where
   abbrev vertex : ℕ → ℕ
@@ -135,12 +135,12 @@ module _ (l : List ℤ) where
           pick false = tt
       go many q = tt
 
-  from-same : (n e : ℕ) → e + n ≡ length (uses l) → All (SameVertex vertex (length (uses l))) (links_from_corner (table_of l) (length (uses l)) e n)
-  from-same zero e h = tt
-  from-same (suc n) e h =
-      all_append (SameVertex vertex (length (uses l))) (links_at_corner (table_of l) (length (uses l)) e) (links_from_corner (table_of l) (length (uses l)) (suc e) n) (corner_same e (omega arith)) (from-same n (suc e) (omega arith))
+  from_same : (n e : ℕ) → e + n ≡ length (uses l) → All (SameVertex vertex (length (uses l))) (links_from_corner (table_of l) (length (uses l)) e n)
+  from_same zero e h = tt
+  from_same (suc n) e h =
+      all_append (SameVertex vertex (length (uses l))) (links_at_corner (table_of l) (length (uses l)) e) (links_from_corner (table_of l) (length (uses l)) (suc e) n) (corner_same e (omega arith)) (from_same n (suc e) (omega arith))
 
   -- a fan's label lies on the vertex of its corners
   pub fan_vertex : (i : ℕ) → i < length (fan_labels l) → (use_at l (at (fan_labels l) i)).from ≡ (use_at l i).from
   unfolding table_links
-  fan_vertex = rw (← table_fans l) (labels-vertices vertex (length (uses l)) (table_links (table_of l) (length (uses l))) (from-same (length (uses l)) 0 (omega arith)))
+  fan_vertex = rw (← table_fans l) (labels_vertices vertex (length (uses l)) (table_links (table_of l) (length (uses l))) (from_same (length (uses l)) 0 (omega arith)))

@@ -34,9 +34,9 @@ runs_fit (x ∷ xs) = go (is_end x) (runs_fit xs)
     go true h = omega arith
     go false h = omega (arith, push_long x (runs xs))
 
-pub corners-fit : (l : List ℤ) → length (corners l) ≤ length l
-corners-fit [] = omega arith
-corners-fit (x ∷ xs) = go (is_end x) (corners-fit xs)
+pub corners_fit : (l : List ℤ) → length (corners l) ≤ length l
+corners_fit [] = omega arith
+corners_fit (x ∷ xs) = go (is_end x) (corners_fit xs)
   where
     go : (b : Bool) → length (corners xs) ≤ length xs → length (cond b (corners xs) (x ∷ corners xs)) ≤ suc (length xs)
     go true h = omega arith
@@ -97,7 +97,7 @@ module _ (l : List ℤ) (n : ℕ) where
 
     pub checking_fits : (count + 1 ≤ length l) × (passed + (e - s) ≤ length l)
     checking_fits =
-        (omega (arith, k.counted, ap length t.split, runs_fit l), omega (arith, k.cornered, corners_split l i s e c t, corners-fit l))
+        (omega (arith, k.counted, ap length t.split, runs_fit l), omega (arith, k.cornered, corners_split l i s e c t, corners_fit l))
 
 -- the limits are looked at first
 module _ (l : List ℤ) (n : ℕ) where

@@ -33,9 +33,9 @@ runs-rejoined (x ∷ y ∷ ys) = go (is_end x) refl (runs (y ∷ ys)) (runs_firs
     go false e (r ∷ rs) n ih = rejoined-push x r rs (ends_closed (y ∷ ys)) ∙ ap {B = List ℤ} (λ l. x ∷ l) ih
 
 -- the entries of the faces are the runs
-pub entries-runs : (s : ℕ) (rs : List (List ℤ)) → map (λ (f : Face). f.entries) (faces_from s rs) ≡ rs
-entries-runs s [] = refl
-entries-runs s (r ∷ rs) = ap {B = List (List ℤ)} (λ qs. r ∷ qs) (entries-runs (s + length r + 1) rs)
+pub entries_runs : (s : ℕ) (rs : List (List ℤ)) → map (λ (f : Face). f.entries) (faces_from s rs) ≡ rs
+entries_runs s [] = refl
+entries_runs s (r ∷ rs) = ap {B = List (List ℤ)} (λ qs. r ∷ qs) (entries_runs (s + length r + 1) rs)
 
 pub faces-rejoined : (l : List ℤ) → rejoined (map (λ (f : Face). f.entries) (faces l)) (ends_closed l) ≡ l
-faces-rejoined l = rw (entries-runs 0 (runs l)) (runs-rejoined l)
+faces-rejoined l = rw (entries_runs 0 (runs l)) (runs-rejoined l)

@@ -21,10 +21,10 @@ vertex_of l i = get_or-map num l i (pos 0)
 pub vertices_long : (l : List ℤ) → length (vertices l) ≡ length l
 vertices_long l = length-map l num
 
-pub vertices-take : (l : List ℤ) (j : ℕ) → vertices (take j l) ≡ take j (vertices l)
-vertices-take l zero = refl
-vertices-take [] (suc j) = refl
-vertices-take (x ∷ xs) (suc j) = ap {B = List ℕ} (λ r. num x ∷ r) (vertices-take xs j)
+pub vertices_take : (l : List ℤ) (j : ℕ) → vertices (take j l) ≡ take j (vertices l)
+vertices_take l zero = refl
+vertices_take [] (suc j) = refl
+vertices_take (x ∷ xs) (suc j) = ap {B = List ℕ} (λ r. num x ∷ r) (vertices_take xs j)
 
 module _ (v : ℕ) where
   pub elem-append : (xs ys : List ℕ) → elem v (xs ++ ys) ≡ (elem v xs || elem v ys)
@@ -79,12 +79,12 @@ module _ (vs : List ℕ) where
   pub unrepeated_found : (i : ℕ) → i < length vs → elem (get_or vs i 0) (seen_to vs i) ≡ true → Unrepeated i → i ≡ first_repeat vs
   unrepeated_found i h e u = omega (arith, repeat_here i h e)
 
-  pub unrepeated-end : (i : ℕ) → length vs ≤ i → Unrepeated i → i ≡ first_repeat vs
-  unrepeated-end i h u = omega (arith, repeat_past i h)
+  pub unrepeated_end : (i : ℕ) → length vs ≤ i → Unrepeated i → i ≡ first_repeat vs
+  unrepeated_end i h u = omega (arith, repeat_past i h)
 
-  pub unrepeated-before : (i : ℕ) → i ≤ first_repeat vs → Unrepeated i
-  unrepeated-before zero h = unrepeated_start
-  unrepeated-before (suc i) h = go (unrepeated-before i (omega arith)) (dec_lt i (length vs)) (elem (get_or vs i 0) (seen_to vs i)) refl
+  pub unrepeated_before : (i : ℕ) → i ≤ first_repeat vs → Unrepeated i
+  unrepeated_before zero h = unrepeated_start
+  unrepeated_before (suc i) h = go (unrepeated_before i (omega arith)) (dec_lt i (length vs)) (elem (get_or vs i 0) (seen_to vs i)) refl
     where
       go : Unrepeated i → Dec (i < length vs) → (b : Bool) → elem (get_or vs i 0) (seen_to vs i) ≡ b → Unrepeated (suc i)
       go u (yes p) true e = absurd (omega (arith, repeat_here i p e))
@@ -96,7 +96,7 @@ module _ (vs : List ℕ) where
   seen_not j p h = go (elem (get_or vs j 0) (seen_to vs j)) refl
     where
       go : (b : Bool) → elem (get_or vs j 0) (seen_to vs j) ≡ b → b ≡ false
-      go true e = absurd (omega (arith, unrepeated-before j (omega arith), repeat_here j p e))
+      go true e = absurd (omega (arith, unrepeated_before j (omega arith), repeat_here j p e))
       go false e = refl
 
 pub marked_long : (fs vs : List ℕ) → length (marked fs vs) ≡ length fs
@@ -211,7 +211,7 @@ naturals_before l j h i k =
 
 pub looked : (l : List ℤ) (j v : ℕ) → j ≤ length l → v ≡ num (get_or l j (pos 0)) → elem v (vertices (take j l)) ≡ elem (get_or (vertices l) j 0) (seen_to (vertices l) j)
 looked l j v h e =
-    rw (e, ← (vertex_of l j), vertices-take l j)
+    rw (e, ← (vertex_of l j), vertices_take l j)
     (sym (elem_seen (get_or (vertices l) j 0) (vertices l) j (rw vertices_long h)))
 
 -- a vertex that has been seen stands at an earlier place, and the other way round
@@ -239,7 +239,7 @@ module _ (vs : List ℕ) where
     where
       go : (b : Bool) → elem (get_or vs (first_repeat vs) 0) (seen_to vs (first_repeat vs)) ≡ b → b ≡ true
       go true e = refl
-      go false e = absurd (omega (arith, (unrepeated-before vs (first_repeat vs) (omega arith)).left, repeat_later vs (first_repeat vs) h e))
+      go false e = absurd (omega (arith, (unrepeated_before vs (first_repeat vs) (omega arith)).left, repeat_later vs (first_repeat vs) h e))
 
   -- a vertex that has been seen, and none before it, is the first repeat
   pub repeat_only : (j : ℕ) → j < length vs → elem (get_or vs j 0) (seen_to vs j) ≡ true → ((i : ℕ) → i < j → elem (get_or vs i 0) (seen_to vs i) ≡ false) → first_repeat vs ≡ j

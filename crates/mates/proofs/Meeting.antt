@@ -17,7 +17,7 @@ use lib.ListN.{length, get_or, take, drop, set, replicate, length-set, length-re
 use lib.Seq.{take-suc, take_all, get_or-take, get_or-set_same, get_or-set_other, length-take-le}
 use Rattle.order.specs.Choose.{choose, count, All, up_from}
 use Rattle.order.specs.Sort.{part, Kept, digit_is, Sorted, key_at, lower, higher, Arranged, KeysBelow, Grouped}
-use Rattle.order.proofs.Lists.{In, at_in, all_at, all_of, all_in, all_map, in_choose, all_both, in_up_from, choose-append, choose_none, choose-same, choose_few, length-up_from, Rising, rising_choose, rising_up_from}
+use Rattle.order.proofs.Lists.{In, at_in, all_at, all_of, all_in, all_map, in_choose, all_both, in_up_from, choose-append, choose_none, choose_same, choose_few, length-up_from, Rising, rising_choose, rising_up_from}
 use Rattle.order.proofs.Parts.{length_part, get_d_part, kept_none, kept_part, kept_set, kept_trans}
 use Rattle.order.proofs.Blocks.{all_choose, all_chosen, bit, count_split}
 use Rattle.mates.specs.Mates.{mate_among, mate_word, starts_many}
@@ -474,7 +474,7 @@ module _ (c : ℕ) (w₀ w ls : List ℕ) (i s : ℕ) (P : Meeting c w₀ w ls i
     meeting_counted =
         sym P.counted ∙
         ap length
-        (choose-same (starts_met (part 0 c w₀) (part c c w₀) i) (starts_by (part 0 c w₀)) (up_from 0 c)
+        (choose_same (starts_met (part 0 c w₀) (part c c w₀) i) (starts_by (part 0 c w₀)) (up_from 0 c)
         (all_in (λ (e : ℕ). starts_met (part 0 c w₀) (part c c w₀) i e ≡ starts_by (part 0 c w₀) e) (up_from 0 c) (λ e q. rw (keys₀, order₀) at (ap (starts_many e) (all_met e)))))
 
 -- none has met: every vertex has 0

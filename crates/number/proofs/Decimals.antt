@@ -42,8 +42,8 @@ module _ (bs : List ℕ) (i : ℕ) where
   pub digit_broken : (m : ℕ) → i < length bs → is_digit (get_or bs i 0) ≡ false → clipped (decimal m (drop i bs)) ≡ Broken
   digit_broken m h e = rw (drop-cons bs i 0 h, e)
 
-  pub digits-end : (m : ℕ) → m ≤ beyond → length bs ≤ i → clipped (decimal m (drop i bs)) ≡ Magnitude m
-  digits-end m k h = rw (drop_of_length-le bs h) (ap Magnitude (omega arith))
+  pub digits_end : (m : ℕ) → m ≤ beyond → length bs ≤ i → clipped (decimal m (drop i bs)) ≡ Magnitude m
+  digits_end m k h = rw (drop_of_length-le bs h) (ap Magnitude (omega arith))
 
   -- one or more digits begin with the value 0
   pub digits_some : i < length bs → magnitude_of (drop i bs) ≡ decimal 0 (drop i bs)

@@ -50,16 +50,16 @@ put_last at vs v t h =
     let m : at + length (vs ++ v ∷ []) ≡ suc k = omega (arith, length-append vs (v ∷ [])) in
     rw (take-set-le at t k v (omega arith), d, m) (ap (λ (x : List ℕ). take at t ++ x) (sym (append_snoc vs v (drop (suc k) t))))
 
-pub digits-length : (k n : ℕ) → length (low_digits k n) ≡ k
-digits-length zero n = refl
-digits-length (suc k) n = length-append (low_digits k (n / 10)) ((zero_byte + n % 10) ∷ []) ∙ rw (digits-length k (n / 10)) (add-one k)
+pub digits_length : (k n : ℕ) → length (low_digits k n) ≡ k
+digits_length zero n = refl
+digits_length (suc k) n = length-append (low_digits k (n / 10)) ((zero_byte + n % 10) ∷ []) ∙ rw (digits_length k (n / 10)) (add-one k)
 
 -- a turn of the loop that puts digits: the last one, and then those in front of it
 pub put_digit : (at k n : ℕ) (t : List ℕ) → 0 < k → at + k ≤ length t
     → put at (low_digits (k - 1) (n / 10)) (set t (at + (k - 1)) (zero_byte + n % 10)) ≡ put at (low_digits k n) t
 put_digit at zero n t p h = absurd (omega arith)
 put_digit at (suc k) n t p h =
-    let e : length (low_digits k (n / 10)) ≡ k = digits-length k (n / 10) in
+    let e : length (low_digits k (n / 10)) ≡ k = digits_length k (n / 10) in
     let d : suc k - 1 ≡ k = omega arith in
     rw d
     (ap (λ (j : ℕ). put at (low_digits k (n / 10)) (set t (at + j) (zero_byte + n % 10))) (sym e)

@@ -58,9 +58,9 @@ module _ {A : Type 0} where
   choose_all p [] a = refl
   choose_all p (x ∷ xs) a = rw a.0 (ap (λ (l : List A). x ∷ l) (choose_all p xs a.1))
 
-  pub choose-same : (p q : A → Bool) (xs : List A) → All (λ (x : A). p x ≡ q x) xs → choose p xs ≡ choose q xs
-  choose-same p q [] a = refl
-  choose-same p q (x ∷ xs) a = rw (a.0, choose-same p q xs a.1)
+  pub choose_same : (p q : A → Bool) (xs : List A) → All (λ (x : A). p x ≡ q x) xs → choose p xs ≡ choose q xs
+  choose_same p q [] a = refl
+  choose_same p q (x ∷ xs) a = rw (a.0, choose_same p q xs a.1)
 
   pub in_choose : (p : A → Bool) (x : A) (xs : List A) → In x xs → p x ≡ true → In x (choose p xs)
   in_choose p x [] h e = h
@@ -187,6 +187,6 @@ map-up_from f s zero = refl
 map-up_from {A} f s (suc m) = ap (λ (l : List A). f (suc s) ∷ l) (map-up_from f (suc s) m)
 
 -- a list is the table of its own elements
-pub from-table : {A : Type 0} (d : A) (xs : List A) → map (λ (i : ℕ). get_or xs i d) (up_from 0 (length xs)) ≡ xs
-from-table d [] = refl
-from-table {A} d (x ∷ xs) = ap (λ (l : List A). x ∷ l) (map-up_from (λ (i : ℕ). get_or (x ∷ xs) i d) 0 (length xs) ∙ from-table d xs)
+pub from_table : {A : Type 0} (d : A) (xs : List A) → map (λ (i : ℕ). get_or xs i d) (up_from 0 (length xs)) ≡ xs
+from_table d [] = refl
+from_table {A} d (x ∷ xs) = ap (λ (l : List A). x ∷ l) (map-up_from (λ (i : ℕ). get_or (x ∷ xs) i d) 0 (length xs) ∙ from_table d xs)

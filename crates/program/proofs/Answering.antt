@@ -62,13 +62,13 @@ module _ (t : List ℕ) where
 value_fits : (p e : ℕ) (bs : List ℕ) (v : ℤ) (q : ℕ) → number_of p e bs ≡ Value v q → Fits32 v
 value_fits p e bs v q h = by_magnitude (magnitude_of (unsigned bs)) h
   where
-    signed-fits : (minus : Bool) (m : ℕ) → m ≤ greatest minus → Fits32 (signed minus m)
-    signed-fits false m k = k
-    signed-fits true zero k = omega arith
-    signed-fits true (suc m) k = k
+    signed_fits : (minus : Bool) (m : ℕ) → m ≤ greatest minus → Fits32 (signed minus m)
+    signed_fits false m k = k
+    signed_fits true zero k = omega arith
+    signed_fits true (suc m) k = k
 
     by_range : (m : ℕ) (r : Bool) → leb m (greatest (is_minus bs)) ≡ r → cond r (Value (signed (is_minus bs) m) e) (Refused out_of_range p) ≡ Value v q → Fits32 v
-    by_range m true k g = let z : signed (is_minus bs) m ≡ v = cc in rw z at (signed-fits (is_minus bs) m (leb-true m (greatest (is_minus bs)) k))
+    by_range m true k g = let z : signed (is_minus bs) m ≡ v = cc in rw z at (signed_fits (is_minus bs) m (leb-true m (greatest (is_minus bs)) k))
     by_range m false k g = let z : ◌≡◌ {A = ℕ} 0 1 = cc in absurd (omega arith)
 
     by_magnitude : (o : Option ℕ) → of_magnitude p e (is_minus bs) o ≡ Value v q → Fits32 v

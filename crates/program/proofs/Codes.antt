@@ -16,7 +16,7 @@ use Rattle.list.specs.declared.FaceFault.{FaceFault}
 use Rattle.list.specs.declared.FaceFault.TheVariants as Fault·
 use Rattle.list.specs.declared.CheckAnswer.{CheckAnswer}
 use Rattle.list.specs.Limits.{max_entries, max_vertices}
-use Rattle.list.proofs.Checking.{corners-fit}
+use Rattle.list.proofs.Checking.{corners_fit}
 use Rattle.text.specs.Tokens.{tokens}
 use Rattle.text.specs.Reading.{room_of, read_of}
 use Rattle.number.specs.Decimal.{decimal_text}
@@ -66,7 +66,7 @@ check_code l n = by_entries (ltb max_entries (length l)) (ltb max_vertices n)
 pub cut_code : (l : List ℤ) → Read l → (cut_answer l).code ≤ 5
 unfolding cut_answer cut_of
 cut_code l read =
-    let c = corners-fit l in
+    let c = corners_fit l in
     let h : length l ≤ input_entries = read.few in
     rw (le-ltb input_entries (length l) h, le-ltb input_entries (length (corners l)) (omega arith), le-ltb (4 * input_entries) (words_needed l) (omega arith))
     (go (eqb (check_of l (vertex_count l)).code 0))
@@ -81,14 +81,14 @@ cut_code l read =
 abbrev pub Starts : ℕ → List ℕ → Type 0
 Starts c w = (rest : List ℕ) × (w ≡ decimal_text c ++ space ∷ rest)
 
-line-starts : (c x : ℕ) (xs : List ℕ) → Starts c (line (c ∷ x ∷ xs))
-line-starts c x xs = (line (x ∷ xs), append_assoc (decimal_text c) (space ∷ []) (line (x ∷ xs)))
+line_starts : (c x : ℕ) (xs : List ℕ) → Starts c (line (c ∷ x ∷ xs))
+line_starts c x xs = (line (x ∷ xs), append_assoc (decimal_text c) (space ∷ []) (line (x ∷ xs)))
 
 cut_starts : (l : List ℤ) → Starts (cut_answer l).code (printed_cut l)
 unfolding printed_cut
 cut_starts l =
     let n = cut_numbers (cut_answer l) in
-    let s = line-starts (cut_answer l).code (cut_answer l).place (drop 2 n) in
+    let s = line_starts (cut_answer l).code (cut_answer l).place (drop 2 n) in
     let lists = cond (eqb (cut_answer l).code 0) (cut_lists l) [] in
     (s.0 ++ lists, ap (λ (w : List ℕ). w ++ lists) s.1 ∙ append_assoc (decimal_text (cut_answer l).code) (space ∷ s.0) lists)
 
@@ -133,8 +133,8 @@ module _ (t : List ℕ) where
           rw (cut_code_for h z, read_printed t h z) (cut_starts (entries_in t))
       by_reading h false e =
           let z = eqb-false (read_of t input_entries).code 0 e in
-          rw (unread_code h z, unread_printed t h z) (line-starts (read_of t input_entries).code (read_of t input_entries).place (0 ∷ 0 ∷ 0 ∷ 0 ∷ 0 ∷ []))
+          rw (unread_code h z, unread_printed t h z) (line_starts (read_of t input_entries).code (read_of t input_entries).place (0 ∷ 0 ∷ 0 ∷ 0 ∷ 0 ∷ []))
 
       by_size : Dec (input_bytes < length t) → Starts (code_for t) (printed t)
-      by_size (yes h) = rw (large_code h, large_printed t h) (line-starts too_large_code input_bytes (0 ∷ 0 ∷ 0 ∷ 0 ∷ 0 ∷ []))
+      by_size (yes h) = rw (large_code h, large_printed t h) (line_starts too_large_code input_bytes (0 ∷ 0 ∷ 0 ∷ 0 ∷ 0 ∷ []))
       by_size (no h) = by_reading (omega arith) (eqb (read_of t input_entries).code 0) refl

@@ -24,7 +24,7 @@ use Rattle.cut.specs.declared.CutAnswer.{CutAnswer}
 use Rattle.program.specs.Limits.{input_entries}
 use Rattle.program.specs.Printed.{vertex_count, line_feed, line, list_line, cut_answer, cut_lists, printed_cut, Read}
 use Rattle.renumber.proofs.Sizes.{new_list_length, map-length}
-use Rattle.program.proofs.Fitting.{map-fits, new_list_fits, text_short}
+use Rattle.program.proofs.Fitting.{map_fits, new_list_fits, text_short}
 
 -- a test that could have refused has not
 passed : (x : Bool) (code place : ℕ) (rest : CutAnswer) → 0 < code → (cond x (cut_refused code place) rest).code ≡ 0 → cond x (cut_refused code place) rest ≡ rest
@@ -61,8 +61,8 @@ pub record Parts (l : List ℤ) (v : ℕ) (nl mp : List ℤ) : Type 0 where
   pub new_map : take v mp ≡ map_of l (group_labels l)
   pub list_few : length (new_list_of l (group_labels l)) ≤ input_entries
   pub map_few : length (map_of l (group_labels l)) ≤ input_entries
-  pub list-short : length (list_line (new_list_of l (group_labels l))) ≤ 13 * input_entries + 3
-  pub map-short : length (list_line (map_of l (group_labels l))) ≤ 13 * input_entries + 3
+  pub list_short : length (list_line (new_list_of l (group_labels l))) ≤ 13 * input_entries + 3
+  pub map_short : length (list_line (map_of l (group_labels l))) ≤ 13 * input_entries + 3
 
 -- ---- the buffers as they are lent, what the cut answers, and what it leaves in them
 
@@ -101,8 +101,8 @@ module _ (l : List ℤ) (read : Read l) (nl₀ mp₀ : List ℤ) (w₀ : List �
             ap (λ (r : CutAnswer). r.vertices) (answered ∙ accepted_cut l n (length nl₀) (length mp₀) (length w₀) (ap (λ (r : CutAnswer). r.code) (sym answered) ∙ ok))
             ∙ sym (map-length l (group_labels l))
 
-        line-short : (m : List ℤ) → length m ≤ input_entries → AllFit m → length (list_line m) ≤ 13 * input_entries + 3
-        line-short m h f = omega (arith, text_short m f, length-append (written m) (line_feed ∷ []))
+        line_short : (m : List ℤ) → length m ≤ input_entries → AllFit m → length (list_line m) ≤ 13 * input_entries + 3
+        line_short m h f = omega (arith, text_short m f, length-append (written m) (line_feed ∷ []))
 
         pub parts : Parts l a.vertices nl mp
         parts =
@@ -117,8 +117,8 @@ module _ (l : List ℤ) (read : Read l) (nl₀ mp₀ : List ℤ) (w₀ : List �
                   ap (take a.vertices) map_is ∙ take_at (map_of l g) (drop (length (map_of l g)) mp₀) a.vertices (sym vertices_are);
               list_few = list_within;
               map_few = map_within;
-              list-short = line-short (new_list_of l g) list_within (new_list_fits l g read.fit few);
-              map-short = line-short (map_of l g) map_within (map-fits l g read.fit);
+              list_short = line_short (new_list_of l g) list_within (new_list_fits l g read.fit few);
+              map_short = line_short (map_of l g) map_within (map_fits l g read.fit);
             }
 
 -- ---- the lines put one behind another
@@ -133,9 +133,9 @@ module _ (l : List ℤ) where
   unfolding printed_cut
   refused_printed h = rw (ne_eqb (cut_answer l).code 0 h) (append-nil (line (cut_numbers (cut_answer l))))
 
-  accepted-printed : (cut_answer l).code ≡ 0 → printed_cut l ≡ line (cut_numbers (cut_answer l)) ++ cut_lists l
+  accepted_printed : (cut_answer l).code ≡ 0 → printed_cut l ≡ line (cut_numbers (cut_answer l)) ++ cut_lists l
   unfolding printed_cut
-  accepted-printed h = rw (eq-eqb (cut_answer l).code 0 h)
+  accepted_printed h = rw (eq-eqb (cut_answer l).code 0 h)
 
   module _ (h : (cut_answer l).code ≡ 0) (at₁ at₂ at₃ : ℕ) (t t₁ t₂ t₃ : List ℕ)
       (e₁ : at₁ ≡ length (line (cut_numbers (cut_answer l)))) (h₁ : t₁ ≡ put 0 (line (cut_numbers (cut_answer l))) t)
@@ -153,7 +153,7 @@ module _ (l : List ℤ) where
       three = list_line (map_of l (group_labels l))
 
       whole : printed_cut l ≡ (one ++ two) ++ three
-      whole = accepted-printed h ∙ sym (append_assoc one two three)
+      whole = accepted_printed h ∙ sym (append_assoc one two three)
 
       pub three_lines : (at₃ ≡ length (printed_cut l)) × (t₃ ≡ put 0 (printed_cut l) t)
       three_lines =

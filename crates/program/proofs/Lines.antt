@@ -13,7 +13,7 @@ use Rattle.text.specs.Writing.{written, accepted_write, write_of, write_into}
 use Rattle.text.specs.declared.WriteAnswer.{WriteAnswer}
 use Rattle.number.specs.Steps.{put}
 use Rattle.number.proofs.Width.{width_64}
-use Rattle.number.proofs.Putting.{digits-length, put-length, put_byte, put_behind}
+use Rattle.number.proofs.Putting.{digits_length, put-length, put_byte, put_behind}
 use Rattle.text.proofs.Writes.{write_fits, into_written}
 use Rattle.program.specs.Printed.{space, line_feed, behind, number_text, line, list_line}
 
@@ -33,17 +33,17 @@ module _ (xs : List ℕ) (i : ℕ) where
     pub line_at_place : line (drop i xs) ≡ number_text (drop i xs) ++ line (drop (i + 1) xs)
     line_at_place = rw (drop-cons xs i 0 h, add-one i)
 
-    pub number-length : length (number_text (drop i xs)) ≡ width (get_or xs i 0) + 1
-    number-length =
+    pub number_length : length (number_text (drop i xs)) ≡ width (get_or xs i 0) + 1
+    number_length =
         ap length number_at_place
         ∙ length-append (decimal_text (get_or xs i 0)) (behind (drop (i + 1) xs) ∷ [])
-        ∙ rw (digits-length (width (get_or xs i 0)) (get_or xs i 0))
+        ∙ rw (digits_length (width (get_or xs i 0)) (get_or xs i 0))
 
     -- its d digits have been put at place at, and the byte behind it follows
     pub number_put : (at d b : ℕ) (t t' : List ℕ) → d ≡ width (get_or xs i 0) → b ≡ behind (drop (i + 1) xs) → at + d < length t
         → t' ≡ put at (low_digits d (get_or xs i 0)) t → set t' (at + d) b ≡ put at (number_text (drop i xs)) t
     number_put at d b t t' hd hb room ht =
-        let n : length (low_digits d (get_or xs i 0)) ≡ d = digits-length d (get_or xs i 0) in
+        let n : length (low_digits d (get_or xs i 0)) ≡ d = digits_length d (get_or xs i 0) in
         let long : length t' ≡ length t = ap length ht ∙ put-length at (low_digits d (get_or xs i 0)) t (omega arith) in
         put_byte (at + d) b t' (omega arith)
         ∙ rw (ht) (ap (λ (k : ℕ). put (at + k) (b ∷ []) (put at (low_digits d (get_or xs i 0)) t)) (sym n))
@@ -60,11 +60,11 @@ pub line_past : (xs : List ℕ) (i : ℕ) → length xs ≤ i → line (drop i x
 line_past xs i h = rw (drop_of_length-le xs h)
 
 -- a line of numbers of 64 bits has at most 21 bytes for each
-pub line-short : (xs : List ℕ) → ((k : ℕ) → get_or xs k 0 < 2 ^ 64) → length (line xs) ≤ 21 * length xs
-line-short [] f = omega arith
-line-short (x ∷ xs) f =
-    let r = line-short xs (λ k. f (suc k)) in
-    let n = number-length (x ∷ xs) 0 (omega arith) in
+pub line_short : (xs : List ℕ) → ((k : ℕ) → get_or xs k 0 < 2 ^ 64) → length (line xs) ≤ 21 * length xs
+line_short [] f = omega arith
+line_short (x ∷ xs) f =
+    let r = line_short xs (λ k. f (suc k)) in
+    let n = number_length (x ∷ xs) 0 (omega arith) in
     let w = width_64 x (f 0) in
     omega (arith, length-append (number_text (x ∷ xs)) (line xs))
 
@@ -84,8 +84,8 @@ module _ (l : List ℤ) (t : List ℕ) (at : ℕ) (few : length l ≤ max_entrie
   accepted = write_fits l (length (drop at t)) few (simp length-drop (omega (arith, list_length)))
 
   -- the writer accepts
-  pub list-accepted : (r : WriteAnswer) → r ≡ write_of l (length (take (length t - at) (drop at t))) → r.length ≡ length (written l)
-  list-accepted r hr =
+  pub list_accepted : (r : WriteAnswer) → r ≡ write_of l (length (take (length t - at) (drop at t))) → r.length ≡ length (written l)
+  list_accepted r hr =
       let e : r ≡ accepted_write (length (written l)) = hr ∙ ap (λ (u : List ℕ). write_of l (length u)) rest ∙ accepted in
       ap (λ (a : WriteAnswer). a.length) e
 

@@ -59,8 +59,8 @@ module _ (l : List ℤ) (w : List ℕ) (old xs : List ℤ) (e i : ℕ) (room : l
   more : (v : ℤ) (rest : List ℤ) → refilled (drop i l) (drop e w) ≡ v ∷ rest → Filled old (refilled l w) rest (i + 1) (set xs i v)
   more v rest q = filled_more old (refilled l w) rest i xs (pos 0) v (omega arith) (rw q at L.filled)
 
-  list-end : is_end (get_or l i (pos 0)) ≡ true → ListLoop l w old (set xs i (get_or l i (pos 0))) e (i + 1)
-  list-end q =
+  list_end : is_end (get_or l i (pos 0)) ≡ true → ListLoop l w old (set xs i (get_or l i (pos 0))) e (i + 1)
+  list_end q =
       record {
         walk = walk_end l e i h L.walk q;
         size = length-set xs i (get_or l i (pos 0)) ∙ L.size;
@@ -79,7 +79,7 @@ module _ (l : List ℤ) (w : List ℕ) (old xs : List ℤ) (e i : ℕ) (room : l
       }
 
   pub list_turn : ListTurn l w old xs e i
-  list_turn = record { end = list-end; corner = list_corner }
+  list_turn = record { end = list_end; corner = list_corner }
 
 pub list_done : (l : List ℤ) (w : List ℕ) (old xs : List ℤ) (e i : ℕ) → length old ≡ length l → length l ≤ i → i ≤ length l → ListLoop l w old xs e i → xs ≡ refilled l w
 list_done l w old xs e i room h k L =

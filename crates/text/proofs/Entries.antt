@@ -12,7 +12,7 @@ use Rattle.number.specs.Bytes.{space, comma, minus_byte, open_byte, close_byte}
 use Rattle.number.specs.Decimal.{width, low_digits}
 use Rattle.text.specs.Writing.{is_negative, entry_text, joint, item_text, entries_text, written}
 use Rattle.number.specs.Steps.{put}
-use Rattle.number.proofs.Putting.{digits-length, put-length, put_byte, put_behind}
+use Rattle.number.proofs.Putting.{digits_length, put-length, put_byte, put_behind}
 
 module _ (x : ℤ) (neg : Bool) (m d : ℕ) (hn : neg ≡ is_negative x) (hm : m ≡ nat_abs x) (hd : d ≡ width m) where
   pub entry_text_lem : entry_text x ≡ cond neg (minus_byte ∷ low_digits d m) (low_digits d m)
@@ -22,8 +22,8 @@ module _ (x : ℤ) (neg : Bool) (m d : ℕ) (hn : neg ≡ is_negative x) (hm : m
   entry_long = ap length entry_text_lem ∙ go neg
     where
       go : (b : Bool) → length (cond b (minus_byte ∷ low_digits d m) (low_digits d m)) ≡ cond b (d + 1) d
-      go true = rw (digits-length d m, add-one d)
-      go false = digits-length d m
+      go true = rw (digits_length d m, add-one d)
+      go false = digits_length d m
 
 -- ---- the entry at place i of a list, and what stands behind it
 

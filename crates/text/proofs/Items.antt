@@ -23,7 +23,7 @@ use Rattle.number.specs.declared.Number.TheVariants.{Value, Refused}
 use Rattle.text.specs.declared.ReadAnswer.{ReadAnswer}
 use Rattle.text.specs.declared.reader.Item.TheVariants.{Entry, Closed, Fault}
 use Rattle.number.proofs.Runs.{run_within}
-use Rattle.text.proofs.Lexing.{skip_tokens, skip_end, skip_byte, skip_token, in_number_lem, number-tokens}
+use Rattle.text.proofs.Lexing.{skip_tokens, skip_end, skip_byte, skip_token, in_number_lem, number_tokens}
 
 -- ---- the things from place i on, by the byte at the first place q that does not separate
 
@@ -38,7 +38,7 @@ module _ (t : List ℕ) (i q : ℕ) (at : q ≡ i + blank false (drop i t)) wher
       → tokens_at t i ≡ number q (number_bytes (drop q t)) ∷ tokens_at t (q + length (number_bytes (drop q t)))
   first_number h o c =
       skip_tokens t i ∙ ap (tokens_at t) (sym at)
-      ∙ number-tokens t q h (in_number_lem (get_or t q 0) (skip_byte t i q at h) (ne_eqb (get_or t q 0) open_byte o) (ne_eqb (get_or t q 0) close_byte c))
+      ∙ number_tokens t q h (in_number_lem (get_or t q 0) (skip_byte t i q at h) (ne_eqb (get_or t q 0) open_byte o) (ne_eqb (get_or t q 0) close_byte c))
 
   -- ---- the item there
 

@@ -45,10 +45,10 @@ blank-length c (b ∷ s) = go (in_gap c b) (blank-length (in_comment c b) s)
     go true h = omega arith
     go false h = omega arith
 
-pub blank-stops : (c : Bool) (s : List ℕ) → blank c s < length s → in_gap false (get_or s (blank c s) 0) ≡ false
-blank-stops c [] h = absurd (omega arith)
-blank-stops true (b ∷ s) h = blank-stops (in_comment true b) s (omega arith)
-blank-stops false (b ∷ s) h = go (in_gap false b) refl (blank-stops (in_comment false b) s) h
+pub blank_stops : (c : Bool) (s : List ℕ) → blank c s < length s → in_gap false (get_or s (blank c s) 0) ≡ false
+blank_stops c [] h = absurd (omega arith)
+blank_stops true (b ∷ s) h = blank_stops (in_comment true b) s (omega arith)
+blank_stops false (b ∷ s) h = go (in_gap false b) refl (blank_stops (in_comment false b) s) h
   where
     go : (g : Bool) → in_gap false b ≡ g → (blank (in_comment false b) s < length s → in_gap false (get_or s (blank (in_comment false b) s) 0) ≡ false)
         → cond g (suc (blank (in_comment false b) s)) 0 < suc (length s)
@@ -73,7 +73,7 @@ module _ (t : List ℕ) (i q : ℕ) (at : q ≡ i + blank false (drop i t)) wher
   pub skip_byte : q < length t → in_gap false (get_or t q 0) ≡ false
   skip_byte h =
       rw (at, ← get_or-drop i t (blank false (drop i t)) 0)
-      (blank-stops false (drop i t) (omega (arith, length-drop i t)))
+      (blank_stops false (drop i t) (omega (arith, length-drop i t)))
 
   pub skip_token : q < length t → tokens_at t i ≡ token q (get_or t q 0) (tokens_at t (suc q))
   skip_token h =
@@ -116,23 +116,23 @@ later_weaker : (p : ℕ) (ks : List Token) → Later (suc p) ks → Later p ks
 later_weaker p [] h = tt
 later_weaker p (k ∷ ks) h = omega arith
 
-push-starts : (p b : ℕ) (ks : List Token) → Later p (push p b ks)
-push-starts p b [] = omega arith
-push-starts p b (opening q ∷ ks) = omega arith
-push-starts p b (closing q ∷ ks) = omega arith
-push-starts p b (number q bs ∷ ks) = go (eqb q (suc p))
+push_starts : (p b : ℕ) (ks : List Token) → Later p (push p b ks)
+push_starts p b [] = omega arith
+push_starts p b (opening q ∷ ks) = omega arith
+push_starts p b (closing q ∷ ks) = omega arith
+push_starts p b (number q bs ∷ ks) = go (eqb q (suc p))
   where
     go : (e : Bool) → Later p (cond e (number p (b ∷ bs) ∷ ks) (number p (b ∷ []) ∷ number q bs ∷ ks))
     go true = omega arith
     go false = omega arith
 
-token-starts : (p b : ℕ) (ks : List Token) → Later p (token p b ks)
-token-starts p b ks = go (eqb b open_byte) (eqb b close_byte)
+token_starts : (p b : ℕ) (ks : List Token) → Later p (token p b ks)
+token_starts p b ks = go (eqb b open_byte) (eqb b close_byte)
   where
     go : (o c : Bool) → Later p (cond o (opening p ∷ ks) (cond c (closing p ∷ ks) (push p b ks)))
     go true c = omega arith
     go false true = omega arith
-    go false false = push-starts p b ks
+    go false false = push_starts p b ks
 
 tokens_later : (p : ℕ) (c : Bool) (s : List ℕ) → Later p (tokens p c s)
 tokens_later p c [] = tt
@@ -141,7 +141,7 @@ tokens_later p c (b ∷ s) = go (in_gap c b) (tokens_later (suc p) (in_comment c
     go : (g : Bool) → Later (suc p) (tokens (suc p) (in_comment c b) s)
         → Later p (cond g (tokens (suc p) (in_comment c b) s) (token p b (tokens (suc p) (in_comment c b) s)))
     go true h = later_weaker p (tokens (suc p) (in_comment c b) s) h
-    go false h = token-starts p b (tokens (suc p) (in_comment c b) s)
+    go false h = token_starts p b (tokens (suc p) (in_comment c b) s)
 
 -- a byte in front of something that does not go on with the number is a number of its own
 push_alone : (p b : ℕ) (ks : List Token) → Later (suc (suc p)) ks → push p b ks ≡ number p (b ∷ []) ∷ ks
@@ -190,9 +190,9 @@ number_run p b s e =
     rw (w.gap, w.comment, w.no_open, w.no_close) (push_run p b s)
 
 -- the same at place q of a text
-pub number-tokens : (t : List ℕ) (q : ℕ) → q < length t → in_number (get_or t q 0) ≡ true
+pub number_tokens : (t : List ℕ) (q : ℕ) → q < length t → in_number (get_or t q 0) ≡ true
     → tokens_at t q ≡ number q (number_bytes (drop q t)) ∷ tokens_at t (q + length (number_bytes (drop q t)))
-number-tokens t q h e =
+number_tokens t q h e =
     let b = get_or t q 0 in
     let s = drop (suc q) t in
     let n = length (number_bytes s) in

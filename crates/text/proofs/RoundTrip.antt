@@ -29,7 +29,7 @@ use Rattle.text.specs.Writing.{entry_text, joint, entries_text, written, Fits32,
 use Rattle.number.specs.declared.Number.TheVariants.{Value}
 use Rattle.text.specs.declared.ReadAnswer.{ReadAnswer}
 use Rattle.number.proofs.Bools.{clash, and_left, and_right}
-use Rattle.number.proofs.Putting.{digits-length}
+use Rattle.number.proofs.Putting.{digits_length}
 use Rattle.text.proofs.Lexing.{number_run}
 
 -- ---- digits
@@ -115,16 +115,16 @@ digits_plain m (b ∷ bs) h e =
     (minus, rw (minus, ne_eqb b plus_byte (λ k. omega arith)) e)
 
 -- with a minus in front they read as the magnitude
-pub digits-signed : (m : ℕ) (bs : List ℕ) → 0 < length bs → decimal 0 bs ≡ some m → magnitude_of bs ≡ some m
-digits-signed m [] h e = absurd (omega arith)
-digits-signed m (b ∷ bs) h e = e
+pub digits_signed : (m : ℕ) (bs : List ℕ) → 0 < length bs → decimal 0 bs ≡ some m → magnitude_of bs ≡ some m
+digits_signed m [] h e = absurd (omega arith)
+digits_signed m (b ∷ bs) h e = e
 
 width_some : (n : ℕ) → 0 < length (decimal_text n)
 width_some n = go (dec_lt n 10)
   where
     go : Dec (n < 10) → 0 < length (decimal_text n)
-    go (yes k) = omega (arith, digits-length (width n) n, width_one n k)
-    go (no k) = omega (arith, digits-length (width n) n, width_more n (omega arith))
+    go (yes k) = omega (arith, digits_length (width n) n, width_one n k)
+    go (no k) = omega (arith, digits_length (width n) n, width_more n (omega arith))
 
 -- ---- no digits of the same value are fewer
 
@@ -153,7 +153,7 @@ pub shortest : (m : ℕ) (bs : List ℕ) → magnitude_of bs ≡ some m → leng
 shortest m [] e = clash (cc)
 shortest m (b ∷ bs) e =
     let d = digit_small b (first_digit 0 m b bs e) in
-    omega (arith, digits-length (width m) m, width_one (0 * 10 + (b - zero_byte)) (omega arith), width_grows (0 * 10 + (b - zero_byte)) m bs (rest_decimal 0 m b bs e))
+    omega (arith, digits_length (width m) m, width_one (0 * 10 + (b - zero_byte)) (omega arith), width_grows (0 * 10 + (b - zero_byte)) m bs (rest_decimal 0 m b bs e))
 
 -- ---- an entry
 
@@ -162,7 +162,7 @@ entry_reads p e (pos m) h =
     let d = digits_plain m (decimal_text m) (width_some m) (decimal_text_lem m) in
     rw (d.0, d.1, le-leb m (greatest false) h)
 entry_reads p e (negsuc k) h =
-    rw (digits-signed (suc k) (decimal_text (suc k)) (width_some (suc k)) (decimal_text_lem (suc k)), le-leb (suc k) (greatest true) h)
+    rw (digits_signed (suc k) (decimal_text (suc k)) (width_some (suc k)) (decimal_text_lem (suc k)), le-leb (suc k) (greatest true) h)
 
 entry_run : (x : ℤ) (r : List ℕ) → number_bytes r ≡ [] → number_bytes (entry_text x ++ r) ≡ entry_text x
 entry_run (pos m) r e = digits_run 0 m (decimal_text m) r (decimal_text_lem m) ∙ ap (λ (z : List ℕ). decimal_text m ++ z) e ∙ append-nil (decimal_text m)
@@ -207,9 +207,9 @@ pub tail_fits : (x : ℤ) (xs : List ℤ) → AllFit (x ∷ xs) → AllFit xs
 tail_fits x xs h i k = h (suc i) (omega arith)
 
 -- the first entry of a list is the first number of its text
-entries-token : (p : ℕ) (x : ℤ) (xs : List ℤ)
+entries_token : (p : ℕ) (x : ℤ) (xs : List ℤ)
     → tokens p false (entries_text (x ∷ xs)) ≡ number p (entry_text x) ∷ tokens (p + length (entry_text x) + length (joint xs)) false (entries_text xs)
-entries-token p x xs =
+entries_token p x xs =
     ap (tokens p false) (append_assoc (entry_text x) (joint xs) (entries_text xs))
     ∙ entry_token p x (joint xs ++ entries_text xs) (joint_ends xs)
     ∙ ap (λ (ks : List Token). number p (entry_text x) ∷ ks) (joint_passed (p + length (entry_text x)) xs)
@@ -217,14 +217,14 @@ entries-token p x xs =
 entries_values : (p : ℕ) (l : List ℤ) → AllFit l → values_of (tokens p false (entries_text l)) ≡ l
 entries_values p [] h = refl
 entries_values p (x ∷ xs) h =
-    rw (entries-token p x xs, entry_reads p (p + length (entry_text x)) x (head_fits x xs h))
+    rw (entries_token p x xs, entry_reads p (p + length (entry_text x)) x (head_fits x xs h))
     (ap (λ (ys : List ℤ). x ∷ ys) (entries_values (p + length (entry_text x) + length (joint xs)) xs (tail_fits x xs h)))
 
-entries-accepted : (e m n p : ℕ) (l : List ℤ) → AllFit l → n + length l ≤ m → inside e m n (tokens p false (entries_text l)) ≡ accepted (n + length l)
-entries-accepted e m n p [] h k = ap accepted (sym (add-zero n))
-entries-accepted e m n p (x ∷ xs) h k =
-    rw (entries-token p x xs, entry_reads p (p + length (entry_text x)) x (head_fits x xs h), lt-ltb n m (omega arith))
-    (entries-accepted e m (suc n) (p + length (entry_text x) + length (joint xs)) xs (tail_fits x xs h) (omega arith)
+entries_accepted : (e m n p : ℕ) (l : List ℤ) → AllFit l → n + length l ≤ m → inside e m n (tokens p false (entries_text l)) ≡ accepted (n + length l)
+entries_accepted e m n p [] h k = ap accepted (sym (add-zero n))
+entries_accepted e m n p (x ∷ xs) h k =
+    rw (entries_token p x xs, entry_reads p (p + length (entry_text x)) x (head_fits x xs h), lt-ltb n m (omega arith))
+    (entries_accepted e m (suc n) (p + length (entry_text x) + length (joint xs)) xs (tail_fits x xs h) (omega arith)
     ∙ ap accepted (suc-add n (length xs) ∙ sym (add-suc n (length xs))))
 
 -- ---- the round trip
@@ -238,7 +238,7 @@ pub round_trip : (l buffer : List ℤ) → length l ≤ max_entries → AllFit l
 unfolding read_into
 round_trip l buffer h f k =
     let a : read_of (written l) (length buffer) ≡ accepted (length l) =
-    entries-accepted (length (written l)) (room_of (length buffer)) 0 1 l f (omega arith) ∙ ap accepted (zero-add (length l)) in
+    entries_accepted (length (written l)) (room_of (length buffer)) 0 1 l f (omega arith) ∙ ap accepted (zero-add (length l)) in
     record {
       answer = a;
       content = rw (ap (λ (r : ReadAnswer). r.code) a) (ap (λ (vs : List ℤ). over vs buffer) (entries_values 1 l f));

@@ -13,7 +13,7 @@ use Rattle.number.proofs.Bools.{clash}
 use Rattle.number.specs.Bytes.{plus_byte, minus_byte, zero_byte}
 use Rattle.number.specs.Numbers.{decimal, magnitude_of}
 use Rattle.text.specs.Faults.{AllDigits, Sign, no_sign, plus, minus, Spelled, HasForm}
-use Rattle.text.proofs.RoundTrip.{first_digit, rest_decimal, digits_plain, digits-signed}
+use Rattle.text.proofs.RoundTrip.{first_digit, rest_decimal, digits_plain, digits_signed}
 
 -- digits have a value, and what has a value is digits
 digits_value : (a : ℕ) (bs : List ℕ) → AllDigits bs → (k : ℕ) × (decimal a bs ≡ some k)
@@ -28,8 +28,8 @@ value_digits a k (b ∷ bs) e = (first_digit a k b bs e, value_digits (a * 10 + 
 
 spelled_form : (sign digits : List ℕ) → Sign sign → 0 < length digits → (k : ℕ) → decimal 0 digits ≡ some k → HasForm (sign ++ digits) k
 spelled_form sign digits no_sign h k e = (digits_plain k digits h e).1
-spelled_form sign digits plus h k e = digits-signed k digits h e
-spelled_form sign digits minus h k e = digits-signed k digits h e
+spelled_form sign digits plus h k e = digits_signed k digits h e
+spelled_form sign digits minus h k e = digits_signed k digits h e
 
 -- one or more digits behind the sign that was taken off
 some_digits : (k : ℕ) (bs : List ℕ) → magnitude_of bs ≡ some k → (0 < length bs) × AllDigits bs
@@ -48,7 +48,7 @@ form_spelled (b ∷ bs) k e = go (eqb b minus_byte) (eqb b plus_byte) refl refl
           digits = bs;
           optional = s;
           one_or_more = d.0;
-          decimal-digits = d.1;
+          decimal_digits = d.1;
           together = ap (λ (y : ℕ). y ∷ bs) q;
         }
 
@@ -63,7 +63,7 @@ form_spelled (b ∷ bs) k e = go (eqb b minus_byte) (eqb b plus_byte) refl refl
           digits = b ∷ bs;
           optional = no_sign;
           one_or_more = d.0;
-          decimal-digits = d.1;
+          decimal_digits = d.1;
           together = refl;
         }
 
@@ -72,6 +72,6 @@ pub form_exactly : (bs : List ℕ) → ((k : ℕ) × HasForm bs k) ↔ Spelled b
 form_exactly bs = (
   λ h. form_spelled bs h.0 h.1,
   λ s.
-      let v = digits_value 0 s.digits s.decimal-digits in
+      let v = digits_value 0 s.digits s.decimal_digits in
       (v.0, rw s.together (spelled_form s.sign s.digits s.optional s.one_or_more v.0 v.1)),
 )

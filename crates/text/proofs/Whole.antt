@@ -83,15 +83,15 @@ inside_fits e m n (opening p ∷ ks) h = omega arith
 inside_fits e m n (closing p ∷ ks) h = behind_fits m n ks h
 inside_fits e m n (number p bs ∷ ks) h = number_fits m n p (number_of p (p + length bs) bs) (inside e m (suc n) ks) (λ k. inside_fits e m (suc n) ks k)
 
-opened-fits : (e m : ℕ) (ks : List Token) → (opened e m ks).entries ≤ m
-opened-fits e m [] = omega arith
-opened-fits e m (opening p ∷ ks) = inside_fits e m 0 ks (omega arith)
-opened-fits e m (closing p ∷ ks) = omega arith
-opened-fits e m (number p bs ∷ ks) = omega arith
+opened_fits : (e m : ℕ) (ks : List Token) → (opened e m ks).entries ≤ m
+opened_fits e m [] = omega arith
+opened_fits e m (opening p ∷ ks) = inside_fits e m 0 ks (omega arith)
+opened_fits e m (closing p ∷ ks) = omega arith
+opened_fits e m (number p bs ∷ ks) = omega arith
 
 pub read_fits : (t : List ℕ) (n : ℕ) → (read_of t n).entries ≤ n
 unfolding read_of
-read_fits t n = omega (arith, opened-fits (length t) (room_of n) (tokens 0 false t))
+read_fits t n = omega (arith, opened_fits (length t) (room_of n) (tokens 0 false t))
 
 -- ---- the opening bracket
 

@@ -32,7 +32,7 @@ pub record Spelled (bs : List ℕ) : Type 0 where
   pub digits : List ℕ
   pub optional : Sign sign
   pub one_or_more : 0 < length digits
-  pub decimal-digits : AllDigits digits
+  pub decimal_digits : AllDigits digits
   pub together : bs ≡ sign ++ digits
 
 -- that this is the same as `Spelled` is proved: `form_exactly`

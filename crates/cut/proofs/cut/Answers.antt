@@ -3,7 +3,7 @@ use Prim.Native.Nat.{◌*◌}
 use mathlib.Core.Path.{◌≡◌, sym, ◌∙◌}
 use lib.ListN.{length}
 use lib.Seq.{length-take-le}
-use Rattle.cut.proofs.Answers.{check-valid, check-corners, cut-check, cut-list-room, cut-map-room, cut-words, cut_made}
+use Rattle.cut.proofs.Answers.{check_valid, check_corners, cut_check, cut_list_room, cut_map_room, cut_words, cut_made}
 use native.Mathlib.Omega.{arith}
 use borrow.Author.Rules.{rules}
 use Rattle.cut.proofs.cut.Goals as goal
@@ -16,7 +16,7 @@ refusal-requires c = search rules
 
 pub returns-then-code-ne0 : goal.returns-then-code-ne0
 returns-then-code-ne0 c =
-    let both = cut-check c.args.list.now c.args.n c.args.new_list.now c.args.map.now c.args.work.now c.check-checked.result c.check-checked.ensures c.refusal.result c.refusal.ensures c.if-code-ne0.true in
+    let both = cut_check c.args.list.now c.args.n c.args.new_list.now c.args.map.now c.args.work.now c.check-checked.result c.check-checked.ensures c.refusal.result c.refusal.ensures c.if-code-ne0.true in
     record { answer = both.0; filled = both.1.0; mapped = both.1.1.0; cleared = both.1.1.1 }
 
 pub refusal-requires-then-new_list-size : goal.refusal-requires-then-new_list-size
@@ -25,7 +25,7 @@ refusal-requires-then-new_list-size c = search rules
 pub returns-then-new_list-size : goal.returns-then-new_list-size
 returns-then-new_list-size c =
     let accepted : c.check-checked.result.code ≡ 0 = c.if-code-ne0.false in
-    let both = cut-list-room c.args.list.now c.args.n c.args.new_list.now c.args.map.now c.args.work.now c.check-checked.result c.check-checked.ensures accepted c.refusal-then-new_list-size.result c.refusal-then-new_list-size.ensures c.if-new_list-size.true in
+    let both = cut_list_room c.args.list.now c.args.n c.args.new_list.now c.args.map.now c.args.work.now c.check-checked.result c.check-checked.ensures accepted c.refusal-then-new_list-size.result c.refusal-then-new_list-size.ensures c.if-new_list-size.true in
     record { answer = both.0; filled = both.1.0; mapped = both.1.1.0; cleared = both.1.1.1 }
 
 pub refusal-requires-then-map-c : goal.refusal-requires-then-map-c
@@ -34,7 +34,7 @@ refusal-requires-then-map-c c = search rules
 pub returns-then-map-c : goal.returns-then-map-c
 returns-then-map-c c =
     let accepted : c.check-checked.result.code ≡ 0 = c.if-code-ne0.false in
-    let both = cut-map-room c.args.list.now c.args.n c.args.new_list.now c.args.map.now c.args.work.now c.check-checked.result c.check-checked.ensures accepted (omega arith) c.refusal-then-map-c.result c.refusal-then-map-c.ensures c.if-map-c.true in
+    let both = cut_map_room c.args.list.now c.args.n c.args.new_list.now c.args.map.now c.args.work.now c.check-checked.result c.check-checked.ensures accepted (omega arith) c.refusal-then-map-c.result c.refusal-then-map-c.ensures c.if-map-c.true in
     record { answer = both.0; filled = both.1.0; mapped = both.1.1.0; cleared = both.1.1.1 }
 
 pub overflow_mul-words : goal.overflow_mul-words
@@ -46,7 +46,7 @@ refusal-requires-then-work-words c = search rules
 pub returns-then-work-words : goal.returns-then-work-words
 returns-then-work-words c =
     let accepted : c.check-checked.result.code ≡ 0 = c.if-code-ne0.false in
-    let both = cut-words c.args.list.now c.args.n c.args.new_list.now c.args.map.now c.args.work.now c.check-checked.result c.check-checked.ensures accepted c.if-new_list-size.false c.if-map-c.false c.refusal-then-work-words.result c.refusal-then-work-words.ensures c.if-work-words.true in
+    let both = cut_words c.args.list.now c.args.n c.args.new_list.now c.args.map.now c.args.work.now c.check-checked.result c.check-checked.ensures accepted c.if-new_list-size.false c.if-map-c.false c.refusal-then-work-words.result c.refusal-then-work-words.ensures c.if-work-words.true in
     record { answer = both.0; filled = both.1.0; mapped = both.1.1.0; cleared = both.1.1.1 }
 
 pub slice_bounds-cut_list-end : goal.slice_bounds-cut_list-end
@@ -65,8 +65,8 @@ pub cut_list-counts-requires : goal.cut_list-counts-requires
 cut_list-counts-requires c =
     let accepted : c.check-checked.result.code ≡ 0 = c.if-code-ne0.false in
     let ok = accepted in (
-      check-valid c.args.list.now c.args.n c.check-checked.result c.check-checked.ensures ok,
-      check-corners c.args.list.now c.args.n c.check-checked.result c.check-checked.ensures ok,
+      check_valid c.args.list.now c.args.n c.check-checked.result c.check-checked.ensures ok,
+      check_corners c.args.list.now c.args.n c.check-checked.result c.check-checked.ensures ok,
       length-take-le (length c.args.list.now) c.args.new_list.now c.if-new_list-size.false,
       c.if-map-c.false,
       length-take-le (4 * c.check-checked.result.corners) c.args.work.now c.if-work-words.false,

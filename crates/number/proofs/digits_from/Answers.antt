@@ -2,7 +2,7 @@ use mathlib.Core.Path.{◌∙◌, sym, ap}
 use native.Mathlib.Omega.{arith}
 use borrow.Author.Rules.{rules}
 use Rattle.number.specs.Steps.{clipped}
-use Rattle.number.proofs.Decimals.{digit_more, digit_broken, digits-end, digits_some, digits_none}
+use Rattle.number.proofs.Decimals.{digit_more, digit_broken, digits_end, digits_some, digits_none}
 use Rattle.number.proofs.digits_from.Goals as goal
 
 pub returns-then-number-from : goal.returns-then-number-from
@@ -45,4 +45,4 @@ loop-i-preserved c =
 pub returns : goal.returns
 returns c =
     let k = c.loop-i in
-    sym (digits-end c.args.number.now k.i k.m k.invariant.0 (omega arith)) ∙ k.invariant.1
+    sym (digits_end c.args.number.now k.i k.m k.invariant.0 (omega arith)) ∙ k.invariant.1

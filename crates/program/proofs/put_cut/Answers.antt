@@ -86,7 +86,7 @@ put_list-end-requires c =
     let numbers : c.numbers-numbers.result ≡ cut_numbers (cut_answer l) = c.numbers-numbers.ensures ∙ ap cut_numbers answer in
     let at_small : c.put_line-at.result ≤ 147 = omega (arith, c.put_line-at.ensures.value.1, ap length numbers) in
     let w = written c.if-code-ne0.false in
-    rw w.new_list (w.list_few, omega (arith, at_small, c.put_line-at.auto.output, c.requires.1, w.list-short))
+    rw w.new_list (w.list_few, omega (arith, at_small, c.put_line-at.auto.output, c.requires.1, w.list_short))
 
 pub slice_bounds-map-end : goal.slice_bounds-map-end
 slice_bounds-map-end c =
@@ -130,7 +130,7 @@ put_list-requires c =
     let behind-is : c.put_list-end.result ≡ at + length (list_line (new_list_of list (group_labels list))) = c.put_list-end.ensures.value ∙ ap (λ (x : List ℤ). at + length (list_line x)) new_list_is in
     let w = written c.if-code-ne0.false in
     rw w.new_map
-    (w.map_few, omega (arith, at_small, c.put_line-at.auto.output, c.put_list-end.auto.output, behind-is, c.requires.1, w.list-short, w.map-short))
+    (w.map_few, omega (arith, at_small, c.put_line-at.auto.output, c.put_list-end.auto.output, behind-is, c.requires.1, w.list_short, w.map_short))
 
 pub shape_of-output : goal.shape_of-output
 shape_of-output c = search rules
@@ -161,7 +161,7 @@ returns c =
     let m = c.put_list.ensures.value ∙ ap (λ (x : List ℤ). c.put_list-end.result + length (list_line x)) w.new_map in
     let u = c.put_list.ensures.output_after ∙ ap (λ (x : List ℤ). put c.put_list-end.result (list_line x) c.put_list-end.new.output) w.new_map in
     let t = c.args.output.now in
-    let room : c.put_list.result ≤ length t = omega (arith, m, at_small, behind-is, c.requires.1, w.list-short, w.map-short) in
+    let room : c.put_list.result ≤ length t = omega (arith, m, at_small, behind-is, c.requires.1, w.list_short, w.map_short) in
     let both = three_lines l z c.put_line-at.result c.put_list-end.result c.put_list.result t c.put_line-at.new.output c.put_list-end.new.output c.put_list.new.output
     at-is put_is behind-is list-put-is m u room in
     record { value = both.0; output_after = both.1 }

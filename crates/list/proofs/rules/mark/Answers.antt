@@ -5,7 +5,7 @@ use mathlib.Core.List.{List}
 use lib.ListN.{length, get_or}
 use Rattle.list.specs.Faces.{vertices}
 use Rattle.list.specs.Flags.{Clear, marked, seen_to}
-use Rattle.list.proofs.Repeats.{unrepeated_start, unrepeated_turn, unrepeated_found, unrepeated-end, flag_clear, flag_set, flag_on, flag_room, marked_long, vertex_of, vertices_long}
+use Rattle.list.proofs.Repeats.{unrepeated_start, unrepeated_turn, unrepeated_found, unrepeated_end, flag_clear, flag_set, flag_on, flag_room, marked_long, vertex_of, vertices_long}
 use Rattle.list.proofs.rules.mark.Goals as goal
 
 pub loop-i-init : goal.loop-i-init
@@ -79,4 +79,4 @@ shape_of-flags c = ap length c.loop-i.invariant.2 ∙ marked_long c.args.flags.n
 pub returns : goal.returns
 returns c =
     let l = c.args.face.now in
-    (unrepeated-end (vertices l) c.loop-i.i (rw vertices_long c.loop-i-test.false) c.loop-i.invariant.1, c.loop-i.invariant.2)
+    (unrepeated_end (vertices l) c.loop-i.i (rw vertices_long c.loop-i-test.false) c.loop-i.invariant.1, c.loop-i.invariant.2)

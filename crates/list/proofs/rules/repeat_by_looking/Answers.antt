@@ -9,7 +9,7 @@ use lib.Seq.{length-take-le}
 use Rattle.list.specs.Faces.{vertices}
 use Rattle.list.specs.Check.{elem}
 use Rattle.list.specs.Flags.{seen_to}
-use Rattle.list.proofs.Repeats.{unrepeated_start, unrepeated_turn, unrepeated_found, unrepeated-end, placed, unplaced, looked, naturals_before, vertices_long}
+use Rattle.list.proofs.Repeats.{unrepeated_start, unrepeated_turn, unrepeated_found, unrepeated_end, placed, unplaced, looked, naturals_before, vertices_long}
 use Rattle.list.proofs.rules.repeat_by_looking.Goals as goal
 
 pub loop-j-init : goal.loop-j-init
@@ -53,4 +53,4 @@ loop-j-preserved c =
 pub returns : goal.returns
 returns c =
     let l = c.args.face.now in
-    unrepeated-end (vertices l) c.loop-j.j (rw vertices_long c.loop-j-test.false) c.loop-j.invariant.1
+    unrepeated_end (vertices l) c.loop-j.j (rw vertices_long c.loop-j-test.false) c.loop-j.invariant.1

@@ -4,7 +4,7 @@ use native.Mathlib.Omega.{arith}
 use lib.ListN.{length, drop, length-append}
 use Rattle.number.proofs.Putting.{put_none}
 use Rattle.program.specs.Printed.{number_text, line}
-use Rattle.program.proofs.Lines.{line_at_place, line_past, line-short, put_on}
+use Rattle.program.proofs.Lines.{line_at_place, line_past, line_short, put_on}
 use Rattle.program.proofs.line.put_line.Goals as goal
 
 pub loop-i-init : goal.loop-i-init
@@ -25,7 +25,7 @@ loop-i-preserved c =
     let h = c.loop-i-test.true in
     let e = line_at_place xs c.loop-i.i h in
     let n = ap length e ∙ length-append (number_text (drop c.loop-i.i xs)) (line (drop (c.loop-i.i + 1) xs)) in
-    let s = line-short xs (λ j. (c.shared_slice_known-1.given j).fits) in (
+    let s = line_short xs (λ j. (c.shared_slice_known-1.given j).fits) in (
       c.put_number-at.auto.output ∙ c.loop-i.invariant.0,
       omega arith,
       omega (arith, c.put_number-at.ensures.value),

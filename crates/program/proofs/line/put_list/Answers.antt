@@ -5,7 +5,7 @@ use native.Mathlib.Omega.{arith}
 use borrow.Author.Rules.{rules}
 use lib.ListN.{length}
 use Rattle.text.specs.Writing.{written}
-use Rattle.program.proofs.Lines.{list-accepted, list_room, list_behind, list_put}
+use Rattle.program.proofs.Lines.{list_accepted, list_room, list_behind, list_put}
 use Rattle.program.proofs.line.put_list.Goals as goal
 
 pub slice_bounds-write-count : goal.slice_bounds-write-count
@@ -22,19 +22,19 @@ write-written-requires c = search rules
 
 pub overflow_add-end : goal.overflow_add-end
 overflow_add-end c =
-    let whole : c.write-written.result.length ≡ length (written c.args.list.now) = list-accepted c.args.list.now c.args.output.now c.args.at (omega arith) c.requires.1 c.write-written.result c.write-written.ensures.value in
+    let whole : c.write-written.result.length ≡ length (written c.args.list.now) = list_accepted c.args.list.now c.args.output.now c.args.at (omega arith) c.requires.1 c.write-written.result c.write-written.ensures.value in
     let fits : c.args.at + c.write-written.result.length + 1 ≤ length c.args.output.now = rw whole (list_room c.args.list.now c.args.output.now c.args.at (omega arith) c.requires.1) in
     let f = fits in omega arith
 
 pub bounds-output-end : goal.bounds-output-end
 bounds-output-end c =
-    let whole : c.write-written.result.length ≡ length (written c.args.list.now) = list-accepted c.args.list.now c.args.output.now c.args.at (omega arith) c.requires.1 c.write-written.result c.write-written.ensures.value in
+    let whole : c.write-written.result.length ≡ length (written c.args.list.now) = list_accepted c.args.list.now c.args.output.now c.args.at (omega arith) c.requires.1 c.write-written.result c.write-written.ensures.value in
     let fits : c.args.at + c.write-written.result.length + 1 ≤ length c.args.output.now = rw whole (list_room c.args.list.now c.args.output.now c.args.at (omega arith) c.requires.1) in
     let f = fits in omega arith
 
 pub overflow_add-result : goal.overflow_add-result
 overflow_add-result c =
-    let whole : c.write-written.result.length ≡ length (written c.args.list.now) = list-accepted c.args.list.now c.args.output.now c.args.at (omega arith) c.requires.1 c.write-written.result c.write-written.ensures.value in
+    let whole : c.write-written.result.length ≡ length (written c.args.list.now) = list_accepted c.args.list.now c.args.output.now c.args.at (omega arith) c.requires.1 c.write-written.result c.write-written.ensures.value in
     let fits : c.args.at + c.write-written.result.length + 1 ≤ length c.args.output.now = rw whole (list_room c.args.list.now c.args.output.now c.args.at (omega arith) c.requires.1) in
     let f = fits in omega arith
 
@@ -43,7 +43,7 @@ shape_of-output c = search rules
 
 pub returns : goal.returns
 returns c =
-    let whole : c.write-written.result.length ≡ length (written c.args.list.now) = list-accepted c.args.list.now c.args.output.now c.args.at (omega arith) c.requires.1 c.write-written.result c.write-written.ensures.value in
+    let whole : c.write-written.result.length ≡ length (written c.args.list.now) = list_accepted c.args.list.now c.args.output.now c.args.at (omega arith) c.requires.1 c.write-written.result c.write-written.ensures.value in
     let l = c.args.list.now in
     let t = c.args.output.now in record {
       value = rw whole (list_behind l t c.args.at (omega arith) c.requires.1);

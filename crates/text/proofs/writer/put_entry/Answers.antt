@@ -10,7 +10,7 @@ use Rattle.number.specs.Bytes.{minus_byte}
 use Rattle.number.specs.Decimal.{low_digits}
 use Rattle.text.specs.Writing.{entry_text}
 use Rattle.number.specs.Steps.{put}
-use Rattle.number.proofs.Putting.{put_byte, put_behind, digits-length}
+use Rattle.number.proofs.Putting.{put_byte, put_behind, digits_length}
 use Rattle.text.proofs.Entries.{entry_text_lem, entry_long}
 use borrow.Author.Rules.{rules}
 use Rattle.text.proofs.writer.put_entry.Goals as goal
@@ -67,7 +67,7 @@ returns-then-negative_at c =
       value = omega arith;
       text_after = c.put_digits.ensures
           ∙ ap (put (a.at + 1) (low_digits d m)) (put_byte a.at minus_byte a.text.now (omega arith))
-          ∙ put_behind a.at (minus_byte ∷ []) (low_digits d m) a.text.now (omega (arith, digits-length d m))
+          ∙ put_behind a.at (minus_byte ∷ []) (low_digits d m) a.text.now (omega (arith, digits_length d m))
           ∙ ap (λ (vs : List ℕ). put a.at vs a.text.now) (sym (rw c.if-negative_at.true at shape));
     }
 
