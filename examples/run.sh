@@ -2,10 +2,11 @@
 # Compiles the C example against the static library, runs it, and runs the program on the printed cases. It stops at a wrong result.
 set -eu
 cd "$(dirname "$0")/.."
-[ -e target/staticlib/libbrimclif.a ] || rt staticlib brimclif >/dev/null
+library=crates/brimclif/out/libbrimclif.a
+[ -e "$library" ] || (cd crates/brimclif && rt lib) >/dev/null
 out=$(mktemp -d)
 trap 'rm -rf "$out"' EXIT
-"${CC:-cc}" -std=c11 -O2 -Wall -Wextra -Werror -Iinclude examples/two_tetrahedra.c target/staticlib/libbrimclif.a -o "$out/two_tetrahedra"
+"${CC:-cc}" -std=c11 -O2 -Wall -Wextra -Werror -Iinclude examples/two_tetrahedra.c "$library" -o "$out/two_tetrahedra"
 "$out/two_tetrahedra"
 for expected in examples/cases/*.out; do
     ./run "${expected%.out}.in" | cmp - "$expected"

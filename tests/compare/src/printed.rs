@@ -23,7 +23,7 @@ const PRINTED: [(&str, &str); 9] = [
 pub fn is_there(tally: &mut Tally) -> bool {
     let there = path().exists();
     if !there {
-        let what = "target/bin/manifold is not there: build it, or set BRIMCLIF_PROGRAM";
+        let what = "crates/manifold/out/manifold is not there: build it, or set BRIMCLIF_PROGRAM";
         tally.fail(what, "program");
     }
     there

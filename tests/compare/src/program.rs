@@ -29,10 +29,10 @@ impl Way {
     }
 }
 
-/// Where the program is: `BRIMCLIF_PROGRAM`, or `target/bin/manifold` of the repository.
+/// Where the program is: `BRIMCLIF_PROGRAM`, or `crates/manifold/out/manifold` of the repository.
 pub fn path() -> PathBuf {
-    let tests = Path::new(env!("CARGO_MANIFEST_DIR")).join("..");
-    let built = tests.join("..").join("target").join("bin").join("manifold");
+    let repository = Path::new(env!("CARGO_MANIFEST_DIR")).join("..").join("..");
+    let built = repository.join("crates/manifold/out/manifold");
     env::var_os("BRIMCLIF_PROGRAM").map_or(built, PathBuf::from)
 }
 
