@@ -45,7 +45,7 @@ impl CutAnswer {
 }
 
 // The class call's answer.
-#[derive(Drop)]
+#[derive(Clone, Copy)]
 pub struct ClassesAnswer {
     pub code: u32,
     pub place: usize,

@@ -13,17 +13,17 @@ mod entry;
 mod rules;
 
 // The list type: it carries the limits, and makes the cursor that goes through a list.
-#[derive(Drop)]
+#[derive(Clone, Copy)]
 pub struct IndexList {}
 
 // A place between two faces of a list: the position where the next face starts.
-#[derive(Drop)]
+#[derive(Clone, Copy)]
 pub struct Cursor {
     pub at: usize,
 }
 
 // What the cursor answers: a face's start and end (without its -1) and the cursor behind it, or the end of the list.
-#[derive(Drop)]
+#[derive(Clone, Copy)]
 pub enum Step {
     Face {
         start: usize,
@@ -33,7 +33,7 @@ pub enum Step {
     Done,
 }
 
-#[derive(Drop)]
+#[derive(Clone, Copy)]
 pub struct CheckAnswer {
     pub code: u32,
     pub place: usize,
@@ -42,7 +42,7 @@ pub struct CheckAnswer {
 }
 
 // The first fault of a face, its place counted from where the face starts.
-#[derive(Drop)]
+#[derive(Clone, Copy)]
 pub enum FaceFault {
     Sound,
     Outside(usize),
@@ -50,14 +50,14 @@ pub enum FaceFault {
     Repeated(usize),
 }
 
-#[derive(Drop)]
+#[derive(Clone, Copy)]
 pub struct Span {
     pub start: usize,
     pub end: usize,
 }
 
 // Which of two lists is asked about: the one before the cut or the one after it.
-#[derive(Drop)]
+#[derive(Clone, Copy)]
 pub enum Which {
     Before,
     After,

@@ -20,7 +20,7 @@ const OUT_OF_RANGE: u32 = 12;
 const BEYOND: u64 = 2_147_483_649;
 
 // Reading at a number gives its value with the place after it, or a refusal with its place.
-#[derive(Drop)]
+#[derive(Clone, Copy)]
 pub enum Number {
     Value { value: i32, next: usize },
     Refused { code: u32, place: usize },

@@ -16,7 +16,7 @@ const TOO_LONG: u32 = 1;
 const NO_ROOM: u32 = 15;
 
 // What reading a text answers. Accepted: code 0, place 0. Refused: code and place, no entries.
-#[derive(Drop)]
+#[derive(Clone, Copy)]
 pub struct ReadAnswer {
     pub code: u32,
     pub place: usize,
@@ -24,7 +24,7 @@ pub struct ReadAnswer {
 }
 
 // What writing a list answers. Accepted: code 0, place 0 and the text's length. Refused: code and place.
-#[derive(Drop)]
+#[derive(Clone, Copy)]
 pub struct WriteAnswer {
     pub code: u32,
     pub place: usize,

@@ -3,15 +3,8 @@
 use mathlib.Core.Path.{ap}
 use mir.Syntax.{w32}
 use mir.ValLaws.{to_z-of_z}
-use borrow.Author.Rules.{rules}
 use Rattle.brimclif.specs.Numbers.{edge_numbers}
 use Rattle.brimclif.proofs.brimclif_edge.Goals as goal
-
-pub faces_on-r-requires : goal.faces_on-r-requires
-faces_on-r-requires c = search rules
-
-pub overflow_cast-answer : goal.overflow_cast-answer
-overflow_cast-answer c = search rules
 
 pub returns : goal.returns
 returns c =

@@ -4,24 +4,11 @@ use mathlib.Core.Path.{◌∙◌, ap}
 use lib.ListN.{replicate}
 use Rattle.fans.specs.Classes.{classes_of}
 use Rattle.cut.proofs.Words.{words_of_groups}
-use borrow.Author.Rules.{rules}
 use Rattle.cut.proofs.class_list.Goals as goal
-
-pub group_list-requires : goal.group_list-requires
-group_list-requires c = search rules
 
 pub mark-requires : goal.mark-requires
 mark-requires c =
     rw c.requires.2 (words_of_groups c.args.list.now c.args.n c.args.c c.requires.0 c.requires.1 c.group_list.new.work c.group_list.ensures.0)
-
-pub clear-requires : goal.clear-requires
-clear-requires c = search rules
-
-pub shape_of-marks : goal.shape_of-marks
-shape_of-marks c = search rules
-
-pub shape_of-work : goal.shape_of-work
-shape_of-work c = search rules
 
 pub returns : goal.returns
 returns c =

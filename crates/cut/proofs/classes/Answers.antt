@@ -5,11 +5,7 @@ use native.Mathlib.Omega.{arith}
 use lib.Seq.{length-take-le}
 use Rattle.groups.proofs.Grouping.{few_corners}
 use Rattle.cut.proofs.Answers.{check_valid, check_corners, classes_check, classes_room, classes_words, classes_done}
-use borrow.Author.Rules.{rules}
 use Rattle.cut.proofs.classes.Goals as goal
-
-pub check-checked-requires : goal.check-checked-requires
-check-checked-requires c = search rules
 
 pub returns-then-code-ne0 : goal.returns-then-code-ne0
 returns-then-code-ne0 c =
@@ -33,14 +29,8 @@ returns-then-work-words c =
     let both = classes_words c.args.list.now c.args.n c.args.classes.now c.args.work.now c.check-checked.result c.check-checked.ensures accepted c.if-classes-n.false c.if-work-words.true in
     record { answer = both.0; bytes = both.1.0; cleared = both.1.1 }
 
-pub slice_bounds-class_list-end : goal.slice_bounds-class_list-end
-slice_bounds-class_list-end c = search rules
-
 pub slice_bounds-class_list-end-2 : goal.slice_bounds-class_list-end-2
 slice_bounds-class_list-end-2 c = sym (length-take-le c.args.n c.args.classes.now c.if-classes-n.false)
-
-pub slice_bounds-class_list-end-3 : goal.slice_bounds-class_list-end-3
-slice_bounds-class_list-end-3 c = search rules
 
 pub slice_bounds-class_list-end-4 : goal.slice_bounds-class_list-end-4
 slice_bounds-class_list-end-4 c = sym (length-take-le (4 * c.check-checked.result.corners) c.args.work.now c.if-work-words.false)
@@ -54,12 +44,6 @@ class_list-requires c =
       length-take-le c.args.n c.args.classes.now c.if-classes-n.false,
       length-take-le (4 * c.check-checked.result.corners) c.args.work.now c.if-work-words.false,
     )
-
-pub shape_of-classes : goal.shape_of-classes
-shape_of-classes c = search rules
-
-pub shape_of-work : goal.shape_of-work
-shape_of-work c = search rules
 
 pub returns : goal.returns
 returns c =

@@ -5,22 +5,12 @@ use lib.ListN.{length}
 use lib.Seq.{length-take-le}
 use Rattle.cut.proofs.Answers.{check_valid, check_corners, cut_check, cut_list_room, cut_map_room, cut_words, cut_made}
 use native.Mathlib.Omega.{arith}
-use borrow.Author.Rules.{rules}
 use Rattle.cut.proofs.cut.Goals as goal
-
-pub check-checked-requires : goal.check-checked-requires
-check-checked-requires c = search rules
-
-pub refusal-requires : goal.refusal-requires
-refusal-requires c = search rules
 
 pub returns-then-code-ne0 : goal.returns-then-code-ne0
 returns-then-code-ne0 c =
     let both = cut_check c.args.list.now c.args.n c.args.new_list.now c.args.map.now c.args.work.now c.check-checked.result c.check-checked.ensures c.refusal.result c.refusal.ensures c.if-code-ne0.true in
     record { answer = both.0; filled = both.1.0; mapped = both.1.1.0; cleared = both.1.1.1 }
-
-pub refusal-requires-then-new_list-size : goal.refusal-requires-then-new_list-size
-refusal-requires-then-new_list-size c = search rules
 
 pub returns-then-new_list-size : goal.returns-then-new_list-size
 returns-then-new_list-size c =
@@ -28,20 +18,11 @@ returns-then-new_list-size c =
     let both = cut_list_room c.args.list.now c.args.n c.args.new_list.now c.args.map.now c.args.work.now c.check-checked.result c.check-checked.ensures accepted c.refusal-then-new_list-size.result c.refusal-then-new_list-size.ensures c.if-new_list-size.true in
     record { answer = both.0; filled = both.1.0; mapped = both.1.1.0; cleared = both.1.1.1 }
 
-pub refusal-requires-then-map-c : goal.refusal-requires-then-map-c
-refusal-requires-then-map-c c = search rules
-
 pub returns-then-map-c : goal.returns-then-map-c
 returns-then-map-c c =
     let accepted : c.check-checked.result.code ≡ 0 = c.if-code-ne0.false in
     let both = cut_map_room c.args.list.now c.args.n c.args.new_list.now c.args.map.now c.args.work.now c.check-checked.result c.check-checked.ensures accepted (omega arith) c.refusal-then-map-c.result c.refusal-then-map-c.ensures c.if-map-c.true in
     record { answer = both.0; filled = both.1.0; mapped = both.1.1.0; cleared = both.1.1.1 }
-
-pub overflow_mul-words : goal.overflow_mul-words
-overflow_mul-words c = search rules
-
-pub refusal-requires-then-work-words : goal.refusal-requires-then-work-words
-refusal-requires-then-work-words c = search rules
 
 pub returns-then-work-words : goal.returns-then-work-words
 returns-then-work-words c =
@@ -49,14 +30,8 @@ returns-then-work-words c =
     let both = cut_words c.args.list.now c.args.n c.args.new_list.now c.args.map.now c.args.work.now c.check-checked.result c.check-checked.ensures accepted c.if-new_list-size.false c.if-map-c.false c.refusal-then-work-words.result c.refusal-then-work-words.ensures c.if-work-words.true in
     record { answer = both.0; filled = both.1.0; mapped = both.1.1.0; cleared = both.1.1.1 }
 
-pub slice_bounds-cut_list-end : goal.slice_bounds-cut_list-end
-slice_bounds-cut_list-end c = search rules
-
 pub slice_bounds-cut_list-end-2 : goal.slice_bounds-cut_list-end-2
 slice_bounds-cut_list-end-2 c = sym (length-take-le (length c.args.list.now) c.args.new_list.now c.if-new_list-size.false)
-
-pub slice_bounds-cut_list-end-3 : goal.slice_bounds-cut_list-end-3
-slice_bounds-cut_list-end-3 c = search rules
 
 pub slice_bounds-cut_list-end-4 : goal.slice_bounds-cut_list-end-4
 slice_bounds-cut_list-end-4 c = sym (length-take-le (4 * c.check-checked.result.corners) c.args.work.now c.if-work-words.false)
@@ -71,15 +46,6 @@ cut_list-counts-requires c =
       c.if-map-c.false,
       length-take-le (4 * c.check-checked.result.corners) c.args.work.now c.if-work-words.false,
     )
-
-pub shape_of-new_list : goal.shape_of-new_list
-shape_of-new_list c = search rules
-
-pub shape_of-map : goal.shape_of-map
-shape_of-map c = search rules
-
-pub shape_of-work : goal.shape_of-work
-shape_of-work c = search rules
 
 pub returns : goal.returns
 returns c =

@@ -3,27 +3,11 @@ use Prim.Native.Nat.{ℕ}
 use mathlib.Core.Path.{◌∙◌, ap}
 use lib.ListN.{replicate}
 use Rattle.cut.proofs.Cutting.{cut_made}
-use borrow.Author.Rules.{rules}
 use Rattle.cut.proofs.cut_list.Goals as goal
-
-pub group_list-singular_edges-requires : goal.group_list-singular_edges-requires
-group_list-singular_edges-requires c = search rules
 
 pub cut_groups-counts-requires : goal.cut_groups-counts-requires
 cut_groups-counts-requires c =
     (c.requires.0, c.group_list-singular_edges.ensures.0, c.group_list-singular_edges.ensures.1, c.requires.2, c.requires.3)
-
-pub clear-requires : goal.clear-requires
-clear-requires c = search rules
-
-pub shape_of-new_list : goal.shape_of-new_list
-shape_of-new_list c = search rules
-
-pub shape_of-map : goal.shape_of-map
-shape_of-map c = search rules
-
-pub shape_of-work : goal.shape_of-work
-shape_of-work c = search rules
 
 pub returns : goal.returns
 returns c =

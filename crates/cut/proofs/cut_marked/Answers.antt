@@ -7,7 +7,6 @@ use lib.Seq.{length-take-le}
 use Rattle.groups.specs.Groups.{group_labels}
 use Rattle.fans.proofs.NoSingular.{none_where_zero}
 use Rattle.cut.proofs.Cutting.{marks_words, entry_words, groups_forest, part_few, part_inside, points_few, groups_cut}
-use borrow.Author.Rules.{rules}
 use Rattle.cut.proofs.cut_marked.Goals as goal
 
 pub singular_ends-ends-requires : goal.singular_ends-ends-requires
@@ -43,18 +42,6 @@ overflow_add-singular_vertices c =
     let l = c.args.list.now in
     let R = c.renumber-vertices.ensures (group_labels l) (groups_forest l (length c.args.marks.now) c.args.c c.requires.0 c.args.work.now c.requires.1) in
     omega (arith, points_few l (length c.args.marks.now) c.args.c c.requires.0 c.args.work.now c.requires.1 c.renumber-vertices.result c.renumber-vertices.new.new_list c.args.map.now c.renumber-vertices.new.map R c.singular_ends-ends.new.marks c.count_fans-fans.new.marks c.singular_ends-ends.result c.count_fans-fans.result c.singular_ends-ends.auto.marks c.count_fans-fans.auto.marks c.singular_ends-ends.ensures c.count_fans-fans.ensures, c.requires.0.few_vertices)
-
-pub shape_of-new_list : goal.shape_of-new_list
-shape_of-new_list c = search rules
-
-pub shape_of-map : goal.shape_of-map
-shape_of-map c = search rules
-
-pub shape_of-work : goal.shape_of-work
-shape_of-work c = search rules
-
-pub shape_of-marks : goal.shape_of-marks
-shape_of-marks c = search rules
 
 pub returns : goal.returns
 returns c =

@@ -6,21 +6,6 @@ use Rattle.cut_bench.proofs.count_sevens.Goals as goal
 pub loop-i-init : goal.loop-i-init
 loop-i-init c = (omega arith, refl, omega arith)
 
-pub offset_bounds-work-i : goal.offset_bounds-work-i
-offset_bounds-work-i c = omega arith
-
-pub bounds-work-i : goal.bounds-work-i
-bounds-work-i c = omega arith
-
-pub overflow_add-k : goal.overflow_add-k
-overflow_add-k c = omega arith
-
-pub overflow_step-i : goal.overflow_step-i
-overflow_step-i c = omega arith
-
-pub loop-i-smaller : goal.loop-i-smaller
-loop-i-smaller c = omega arith
-
 pub loop-i-preserved : goal.loop-i-preserved
 loop-i-preserved c =
     (omega arith, refl, elim c.if-work-i-eq7.branch [ then-work-i-eq7 w ↦ omega arith | else-work-i-eq7 w ↦ omega arith ])

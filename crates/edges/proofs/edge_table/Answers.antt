@@ -2,7 +2,6 @@
 use Prim.Native.Nat.{◌*◌, ◌/◌, ◌≤◌}
 use mathlib.Core.Path.{◌≡◌, ◌∙◌}
 use native.Mathlib.Omega.{arith}
-use borrow.Author.Rules.{rules}
 use lib.ListN.{length}
 use Rattle.list.specs.Limits.{max_entries}
 use Rattle.edges.specs.Uses.{uses}
@@ -27,9 +26,6 @@ pub take_apart-requires : goal.take_apart-requires
 take_apart-requires c =
     let long : length c.write_words.new.work ≡ 4 * (length c.args.work.now / 4) = omega (arith, c.write_words.auto.work, c.requires.1) in
     c.pair_edges-singular.auto.work ∙ long
-
-pub shape_of-work : goal.shape_of-work
-shape_of-work c = search rules
 
 pub returns : goal.returns
 returns c =

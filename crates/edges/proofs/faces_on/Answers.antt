@@ -9,17 +9,7 @@ use Rattle.edges.specs.Uses.{faces_on}
 use Rattle.edges.specs.Table.{is_pair, edge_answer}
 use Rattle.edges.proofs.Question.{edge_refused, edge_no_pair, edge_counted}
 use native.Mathlib.Omega.{arith}
-use borrow.Author.Rules.{rules}
 use Rattle.edges.proofs.faces_on.Goals as goal
-
-pub check-checked-requires : goal.check-checked-requires
-check-checked-requires c = search rules
-
-pub is_pair-pair-requires : goal.is_pair-pair-requires
-is_pair-pair-requires c = search rules
-
-pub refused-requires : goal.refused-requires
-refused-requires c = search rules
 
 pub returns-then-code-ne0 : goal.returns-then-code-ne0
 returns-then-code-ne0 d =
@@ -29,9 +19,6 @@ returns-then-code-ne0 d =
     let due = edge_refused d.args.list.now d.args.n d.args.a d.args.b (λ e. faulty (sym code ∙ e)) in
     cc
 
-pub refused-requires-then-not-pair : goal.refused-requires-then-not-pair
-refused-requires-then-not-pair c = search rules
-
 pub returns-then-not-pair : goal.returns-then-not-pair
 returns-then-not-pair d =
     let code : (check_of d.args.list.now d.args.n).code ≡ d.check-checked.result.code = sym (ap (λ (r : CheckAnswer). r.code) d.check-checked.ensures) in
@@ -39,15 +26,6 @@ returns-then-not-pair d =
     let accepted : d.check-checked.result.code ≡ 0 = omega arith in
     let due = edge_no_pair d.args.list.now d.args.n d.args.a d.args.b (code ∙ accepted) (pair ∙ d.if-not-pair.true) in
     cc
-
-pub number-requires : goal.number-requires
-number-requires c = search rules
-
-pub number-requires-2 : goal.number-requires-2
-number-requires-2 c = search rules
-
-pub count_faces-requires : goal.count_faces-requires
-count_faces-requires c = search rules
 
 pub returns : goal.returns
 returns c =

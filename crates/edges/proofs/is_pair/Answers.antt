@@ -5,31 +5,18 @@ use mir.ValLaws.{to_z-of_z}
 use Rattle.list.specs.Faces.{num}
 use Rattle.edges.specs.Table.{is_index}
 use Rattle.edges.proofs.Question.{pair_first, pair_second, pair_third}
-use borrow.Author.Rules.{rules}
 use Rattle.edges.proofs.is_pair.Goals as goal
-
-pub is_index-requires : goal.is_index-requires
-is_index-requires c = search rules
 
 pub returns-then-not-is_index : goal.returns-then-not-is_index
 returns-then-not-is_index c =
     let first : is_index c.args.n c.args.a ≡ c.is_index.result = sym (c.is_index.ensures ∙ ap (is_index c.args.n) (to_z-of_z w32 c.args.a c.ranges.a)) in
     pair_first c.args.n c.args.a c.args.b (first ∙ c.if-not-is_index.true)
 
-pub is_index-requires-2 : goal.is_index-requires-2
-is_index-requires-2 c = search rules
-
 pub returns-then-not-is_index-2 : goal.returns-then-not-is_index-2
 returns-then-not-is_index-2 c =
     let first : is_index c.args.n c.args.a ≡ c.is_index.result = sym (c.is_index.ensures ∙ ap (is_index c.args.n) (to_z-of_z w32 c.args.a c.ranges.a)) in
     let second : is_index c.args.n c.args.b ≡ c.is_index-2.result = sym (c.is_index-2.ensures ∙ ap (is_index c.args.n) (to_z-of_z w32 c.args.b c.ranges.b)) in
     pair_second c.args.n c.args.a c.args.b (first ∙ c.if-not-is_index.false) (second ∙ c.if-not-is_index-2.true)
-
-pub number-requires : goal.number-requires
-number-requires c = search rules
-
-pub number-requires-2 : goal.number-requires-2
-number-requires-2 c = search rules
 
 pub returns : goal.returns
 returns c =

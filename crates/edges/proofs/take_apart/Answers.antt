@@ -10,42 +10,6 @@ use Rattle.edges.proofs.take_apart.Goals as goal
 pub loop-e-init : goal.loop-e-init
 loop-e-init c = (omega arith, apart_none _ _)
 
-pub overflow_mul-word : goal.overflow_mul-word
-overflow_mul-word c = omega arith
-
-pub overflow_add-word : goal.overflow_add-word
-overflow_add-word c = omega arith
-
-pub offset_bounds-work-c : goal.offset_bounds-work-c
-offset_bounds-work-c c = omega arith
-
-pub bounds-work-c : goal.bounds-work-c
-bounds-work-c c = omega arith
-
-pub overflow_cast-work : goal.overflow_cast-work
-overflow_cast-work c = omega arith
-
-pub nonzero_div-work : goal.nonzero_div-work
-nonzero_div-work c = omega arith
-
-pub offset_bounds-work-e : goal.offset_bounds-work-e
-offset_bounds-work-e c = omega arith
-
-pub bounds-work-e : goal.bounds-work-e
-bounds-work-e c = omega arith
-
-pub overflow_cast-work-in-loop-e : goal.overflow_cast-work-in-loop-e
-overflow_cast-work-in-loop-e c = omega arith
-
-pub nonzero_rem-work : goal.nonzero_rem-work
-nonzero_rem-work c = omega arith
-
-pub overflow_add-work : goal.overflow_add-work
-overflow_add-work c = omega arith
-
-pub offset_bounds-work-c-in-loop-e : goal.offset_bounds-work-c-in-loop-e
-offset_bounds-work-c-in-loop-e c = omega arith
-
 pub bounds-work-c-in-loop-e : goal.bounds-work-c-in-loop-e
 bounds-work-c-in-loop-e c =
     let w : List ℕ = c.loop-e.work in
@@ -53,15 +17,6 @@ bounds-work-c-in-loop-e c =
     let e : ℕ = c.loop-e.e in
     let next : ℕ = get_or w (3 * c.args.c + e) 0 / max_vertices in
     omega (arith, long, length-set w e next)
-
-pub overflow_mul-work : goal.overflow_mul-work
-overflow_mul-work c = omega arith
-
-pub overflow_add-work-in-loop-e : goal.overflow_add-work-in-loop-e
-overflow_add-work-in-loop-e c = omega arith
-
-pub offset_bounds-work-c-in-loop-e-2 : goal.offset_bounds-work-c-in-loop-e-2
-offset_bounds-work-c-in-loop-e-2 c = omega arith
 
 pub bounds-work-c-in-loop-e-2 : goal.bounds-work-c-in-loop-e-2
 bounds-work-c-in-loop-e-2 c =
@@ -71,12 +26,6 @@ bounds-work-c-in-loop-e-2 c =
     let next : ℕ = get_or w (3 * c.args.c + e) 0 / max_vertices in
     let vertex : ℕ = get_or w (3 * c.args.c + e) 0 % max_vertices in
     omega (arith, long, length-set w e next, length-set (set w e next) (c.args.c + e) vertex)
-
-pub overflow_add-e : goal.overflow_add-e
-overflow_add-e c = omega arith
-
-pub loop-e-smaller : goal.loop-e-smaller
-loop-e-smaller c = omega arith
 
 pub loop-e-preserved : goal.loop-e-preserved
 loop-e-preserved c =

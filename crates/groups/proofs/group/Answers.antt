@@ -1,21 +1,11 @@
 -- `group` meets its contract: from every corner its own parent on, the joins over the table give the labels of its links.
 use Rattle.groups.proofs.Joined.{forest_descends}
 use Rattle.groups.proofs.JoinLoop.{table_kept, grouped}
-use borrow.Author.Rules.{rules}
 use Rattle.groups.proofs.group.Goals as goal
-
-pub overflow_mul-c : goal.overflow_mul-c
-overflow_mul-c c = search rules
-
-pub separate-requires : goal.separate-requires
-separate-requires c = search rules
 
 pub join_edges-requires : goal.join_edges-requires
 join_edges-requires c =
     (table_kept c.args.w.now c.args.c c.separate.new.w c.separate.ensures.0 c.separate.auto.w c.requires.0, c.requires.1, forest_descends _ _ _ c.separate.ensures.1)
-
-pub shape_of-w : goal.shape_of-w
-shape_of-w c = search rules
 
 pub returns : goal.returns
 returns c =

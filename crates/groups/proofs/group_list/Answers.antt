@@ -1,18 +1,11 @@
 -- `group_list` meets its contract: the groups of the edge table of a list are the fans of the list.
 use mathlib.Core.Path.{◌∙◌}
 use Rattle.groups.proofs.Grouping.{few_corners, words_of_table, grouped_of_table}
-use borrow.Author.Rules.{rules}
 use Rattle.groups.proofs.group_list.Goals as goal
-
-pub edge_table-singular-requires : goal.edge_table-singular-requires
-edge_table-singular-requires c = search rules
 
 pub group-requires : goal.group-requires
 group-requires c =
     (words_of_table c.args.list.now c.args.n c.args.c c.requires.0 c.requires.1 c.edge_table-singular.new.work c.edge_table-singular.ensures.table, few_corners c.args.list.now c.args.n c.args.c c.requires.0 c.requires.1)
-
-pub shape_of-work : goal.shape_of-work
-shape_of-work c = search rules
 
 pub returns : goal.returns
 returns c =

@@ -8,18 +8,6 @@ use Rattle.groups.proofs.join_edges.Goals.{then-e-m+then-m-c, then-e-m+else-m-c,
 pub loop-e-init : goal.loop-e-init
 loop-e-init c = (omega arith, loop_start c.args.w.now c.args.c)
 
-pub overflow_mul-m : goal.overflow_mul-m
-overflow_mul-m c = omega arith
-
-pub overflow_add-m : goal.overflow_add-m
-overflow_add-m c = omega arith
-
-pub offset_bounds-w-c : goal.offset_bounds-w-c
-offset_bounds-w-c c = omega arith
-
-pub bounds-w-c : goal.bounds-w-c
-bounds-w-c c = omega arith
-
 pub overflow_cast-m : goal.overflow_cast-m
 overflow_cast-m c = omega (arith, c.slice_known-in-loop-e-1.given (2 * c.args.c + c.loop-e.e))
 
@@ -32,12 +20,6 @@ join_across-requires c = (
   c.loop-e.invariant.1.regrouped.down c.requires.2,
 )
 
-pub overflow_step-e : goal.overflow_step-e
-overflow_step-e c = omega arith
-
-pub loop-e-smaller : goal.loop-e-smaller
-loop-e-smaller c = omega arith
-
 pub loop-e-preserved : goal.loop-e-preserved
 loop-e-preserved c =
     let turn = turn_at c.args.w.now c.args.c c.loop-e.w c.loop-e.e c.loop-e-test.true c.loop-e.invariant.1 in (
@@ -49,9 +31,6 @@ loop-e-preserved c =
         | else-e-m w ↦ rw w.w-is (turn.early w.if-e-m.false)
       ],
     )
-
-pub shape_of-w : goal.shape_of-w
-shape_of-w c = omega arith
 
 pub returns : goal.returns
 returns c = loop_end c.args.w.now c.args.c c.loop-e.w c.loop-e.e c.loop-e-test.false c.loop-e.invariant.1

@@ -1,14 +1,7 @@
 -- `parent` meets its contract: a parent is in its child's group, and not after it.
 use native.Mathlib.Omega.{arith}
-use borrow.Author.Rules.{rules}
 use Rattle.groups.proofs.Joined.{rises_here, descends_at}
 use Rattle.groups.proofs.parent.Goals as goal
-
-pub offset_bounds-parents-x : goal.offset_bounds-parents-x
-offset_bounds-parents-x c = search rules
-
-pub bounds-parents-x : goal.bounds-parents-x
-bounds-parents-x c = search rules
 
 pub overflow_cast-result : goal.overflow_cast-result
 overflow_cast-result c = omega (arith, c.shared_slice_known-1.given c.args.x)

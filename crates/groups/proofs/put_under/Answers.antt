@@ -1,7 +1,6 @@
 -- `put_under` meets its contract: the roots of the two corners are their labels, and the later one goes under the earlier as `merge` has it.
 use Prim.Native.Nat.{◌<◌}
 use native.Mathlib.Omega.{arith}
-use borrow.Author.Rules.{rules}
 use lib.ListN.{length}
 use Rattle.groups.proofs.Joined.{regrouped_alone}
 use Rattle.groups.proofs.put_under.Goals as goal
@@ -11,12 +10,6 @@ root-a-requires c = (c.requires.0, c.requires.3)
 
 pub root-b-requires : goal.root-b-requires
 root-b-requires c = (c.requires.1, c.requires.3)
-
-pub later-last-requires : goal.later-last-requires
-later-last-requires c = search rules
-
-pub earlier-requires : goal.earlier-requires
-earlier-requires c = search rules
 
 pub overflow_cast-parents : goal.overflow_cast-parents
 overflow_cast-parents c =
@@ -32,9 +25,6 @@ pub bounds-parents-last : goal.bounds-parents-last
 bounds-parents-last c =
     let inside : c.later-last.result < length c.args.parents.now = omega (arith, c.later-last.ensures, c.root-b.ensures.rises.below, c.root-a.ensures.rises.below, c.requires.0, c.requires.1) in
     inside
-
-pub shape_of-parents : goal.shape_of-parents
-shape_of-parents c = search rules
 
 pub returns : goal.returns
 returns c =

@@ -21,17 +21,8 @@ bounds-parents-r c = omega (arith, c.loop-r.invariant.below)
 pub overflow_cast-parents : goal.overflow_cast-parents
 overflow_cast-parents c = omega (arith, c.shared_slice_known-in-loop-r-1.given c.loop-r.r)
 
-pub offset_bounds-parents-r-in-loop-r : goal.offset_bounds-parents-r-in-loop-r
-offset_bounds-parents-r-in-loop-r c = omega arith
-
 pub bounds-parents-r-in-loop-r : goal.bounds-parents-r-in-loop-r
 bounds-parents-r-in-loop-r c = omega (arith, c.loop-r.invariant.below)
-
-pub overflow_cast-r : goal.overflow_cast-r
-overflow_cast-r c = omega arith
-
-pub loop-r-smaller : goal.loop-r-smaller
-loop-r-smaller c = omega arith
 
 pub loop-r-preserved : goal.loop-r-preserved
 loop-r-preserved c =

@@ -10,32 +10,11 @@ use Rattle.groups.proofs.separate.Goals as goal
 pub loop-i-init : goal.loop-i-init
 loop-i-init c = (refl, omega arith, refl, below_none (λ (j : ℕ). at c.args.w.now (c.args.p + j) ≡ j))
 
-pub overflow_add-p : goal.overflow_add-p
-overflow_add-p c = omega arith
-
-pub overflow_cast-w : goal.overflow_cast-w
-overflow_cast-w c = omega arith
-
-pub overflow_add-w : goal.overflow_add-w
-overflow_add-w c = omega arith
-
-pub offset_bounds-w-p : goal.offset_bounds-w-p
-offset_bounds-w-p c = omega arith
-
-pub bounds-w-p : goal.bounds-w-p
-bounds-w-p c = omega arith
-
-pub overflow_add-i : goal.overflow_add-i
-overflow_add-i c = omega arith
-
 pub loop-i-smaller : goal.loop-i-smaller
 loop-i-smaller c = simp length-set (omega arith)
 
 pub loop-i-preserved : goal.loop-i-preserved
 loop-i-preserved c = own_more c.args.w.now c.args.p c.loop-i.w c.loop-i.i c.loop-i-test.true c.loop-i.invariant
-
-pub shape_of-w : goal.shape_of-w
-shape_of-w c = omega arith
 
 pub returns : goal.returns
 returns c =

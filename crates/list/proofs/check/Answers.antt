@@ -7,33 +7,17 @@ use Rattle.list.specs.Check.{check_of, check_faces, accepted}
 use Rattle.list.specs.declared.CheckAnswer.{CheckAnswer}
 use Rattle.list.specs.Limits.{max_vertices}
 use Rattle.list.proofs.Checking.{check_entries, check_vertices, check_faces_lem, flags_new}
-use borrow.Author.Rules.{rules}
 use Rattle.list.proofs.check.Goals as goal
-
-pub max_entries-requires : goal.max_entries-requires
-max_entries-requires c = search rules
-
-pub refused-requires : goal.refused-requires
-refused-requires c = search rules
 
 pub returns-then-max_entries-list : goal.returns-then-max_entries-list
 returns-then-max_entries-list c =
     c.refused.ensures
     ∙ check_entries c.args.list.now c.args.n (omega (arith, c.if-max_entries-list.true, c.max_entries.ensures))
 
-pub max_vertices-requires : goal.max_vertices-requires
-max_vertices-requires c = search rules
-
-pub refused-requires-then-max_vertices-n : goal.refused-requires-then-max_vertices-n
-refused-requires-then-max_vertices-n c = search rules
-
 pub returns-then-max_vertices-n : goal.returns-then-max_vertices-n
 returns-then-max_vertices-n c =
     c.refused-then-max_vertices-n.ensures
     ∙ check_vertices c.args.list.now c.args.n (omega (arith, c.if-max_entries-list.false, c.max_entries.ensures)) (omega (arith, c.if-max_vertices-n.true, c.max_vertices.ensures))
-
-pub slice_bounds-check_faces-end : goal.slice_bounds-check_faces-end
-slice_bounds-check_faces-end c = search rules
 
 pub check_faces-requires : goal.check_faces-requires
 check_faces-requires c = flags_new c.args.n _ c.if-n-le-FEW_VERTICES.true (omega arith)
@@ -43,9 +27,6 @@ returns-then-n-le-FEW_VERTICES c =
     let faces-checked : (r : CheckAnswer) → r ≡ check_faces c.args.n (faces c.args.list.now) (accepted (length (faces c.args.list.now)) (length (corners c.args.list.now))) → r ≡ check_of c.args.list.now c.args.n = λ r q. q
     ∙ check_faces_lem c.args.list.now c.args.n (omega (arith, c.if-max_entries-list.false, c.max_entries.ensures)) (omega (arith, c.if-max_vertices-n.false, c.max_vertices.ensures)) in
     faces-checked _ c.check_faces.ensures
-
-pub slice_bounds-check_faces-end-2 : goal.slice_bounds-check_faces-end-2
-slice_bounds-check_faces-end-2 c = search rules
 
 pub check_faces-requires-2 : goal.check_faces-requires-2
 check_faces-requires-2 c =

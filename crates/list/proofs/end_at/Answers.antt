@@ -1,17 +1,10 @@
 -- `end_at` meets its contract: the bits of -1 are the greatest number of 32 bits, and no other entry has them.
 use mathlib.Core.Path.{sym, ap}
-use borrow.Author.Rules.{rules}
 use lib.IntN.{pos}
 use lib.ListN.{get_or, get_or-eq_default}
 use Rattle.list.specs.Faces.{is_end}
 use Rattle.list.proofs.Signs.{end_bits}
 use Rattle.list.proofs.end_at.Goals as goal
-
-pub offset_bounds-l-i : goal.offset_bounds-l-i
-offset_bounds-l-i c = search rules
-
-pub bounds-l-i : goal.bounds-l-i
-bounds-l-i c = search rules
 
 pub returns-then-i-l : goal.returns-then-i-l
 returns-then-i-l c = end_bits (get_or c.args.l.now c.args.i (pos 0)) c.result-1.given

@@ -2,20 +2,7 @@
 use mathlib.Core.Path.{sym, ◌∙◌, ap}
 use Rattle.list.specs.Show.{face_of, asked}
 use Rattle.list.specs.declared.Which.{Which}
-use borrow.Author.Rules.{rules}
 use Rattle.list.proofs.face.Goals as goal
-
-pub enum_told-1 : goal.enum_told-1
-enum_told-1 c = search rules
-
-pub part-requires : goal.part-requires
-part-requires c = search rules
-
-pub enum_told-in-After : goal.enum_told-in-After
-enum_told-in-After c = search rules
-
-pub part-requires-in-After : goal.part-requires-in-After
-part-requires-in-After c = search rules
 
 pub returns-in-Before : goal.returns-in-Before
 returns-in-Before c =

@@ -24,9 +24,6 @@ returns-then-left-eq0 c =
     let stepped : Stepped c.args.list.now c.loop-start.cursor.at c.in-Face.start c.in-Face.end c.in-Face.next = step_stepped _ _ _ _ _ (sym c.next.ensures ∙ c.in-Face.is) in
     span_here _ _ _ _ _ (stepped) c.loop-start.left c.if-left-eq0.true ∙ c.loop-start.invariant
 
-pub overflow_sub-left : goal.overflow_sub-left
-overflow_sub-left c = omega arith
-
 pub loop-start-smaller : goal.loop-start-smaller
 loop-start-smaller c =
     let stepped : Stepped c.args.list.now c.loop-start.cursor.at c.in-Face.start c.in-Face.end c.in-Face.next = step_stepped _ _ _ _ _ (sym c.next.ensures ∙ c.in-Face.is) in

@@ -4,11 +4,7 @@ use native.Mathlib.Omega.{arith}
 use Rattle.list.specs.Show.{face_of}
 use Rattle.list.specs.declared.Span.{Span}
 use Rattle.list.proofs.Shown.{Shown, span_shown}
-use borrow.Author.Rules.{rules}
 use Rattle.list.proofs.part.Goals as goal
-
-pub face_span-span-requires : goal.face_span-span-requires
-face_span-span-requires c = search rules
 
 pub offset_bounds-list-start : goal.offset_bounds-list-start
 offset_bounds-list-start c =

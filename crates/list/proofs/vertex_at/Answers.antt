@@ -1,6 +1,5 @@
 -- `vertex_at` meets its contract: a negative entry counts as 0, any other is its own magnitude, as `num` has it.
 use mathlib.Core.Path.{sym, ap}
-use borrow.Author.Rules.{rules}
 use lib.IntN.{ℤ, pos}
 use lib.ListN.{get_or, get_or-eq_default}
 use Rattle.list.specs.Faces.{num}
@@ -9,12 +8,6 @@ use Rattle.list.proofs.vertex_at.Goals as goal
 
 pub returns-then-l-i : goal.returns-then-l-i
 returns-then-l-i c = sym (ap num (get_or-eq_default c.args.l.now (pos 0) c.if-l-i.true))
-
-pub offset_bounds-l-i : goal.offset_bounds-l-i
-offset_bounds-l-i c = search rules
-
-pub bounds-l-i : goal.bounds-l-i
-bounds-l-i c = search rules
 
 pub returns-then-x-lt0 : goal.returns-then-x-lt0
 returns-then-x-lt0 c =

@@ -3,7 +3,6 @@ use Prim.Native.Nat.{ℕ, ◌*◌}
 use mathlib.Core.List.{List}
 use mathlib.Core.Logic.{inl}
 use native.Mathlib.Omega.{arith}
-use borrow.Author.Rules.{rules}
 use Rattle.order.specs.Sort.{Kept, KeysBelow}
 use Rattle.order.proofs.Parts.{kept_part, kept_trans, kept_wider}
 use Rattle.mates.proofs.pair_edges.Goals as goal
@@ -18,9 +17,6 @@ order_corners-requires c = (c.requires.0, c.requires.1, c.requires.3)
 pub match_corners-requires : goal.match_corners-requires
 match_corners-requires c =
     (c.order_corners.ensures.grouped, c.requires.2, keys-below-kept c.args.c c.args.n c.args.work.now c.order_corners.new.work c.order_corners.ensures.kept c.requires.3)
-
-pub shape_of-work : goal.shape_of-work
-shape_of-work c = search rules
 
 pub returns : goal.returns
 returns c =

@@ -11,12 +11,6 @@ returns-then-number-from c = sym (digits_none c.args.number.now c.args.from (ome
 pub loop-i-init : goal.loop-i-init
 loop-i-init c = (search rules, ap clipped (sym (digits_some c.args.number.now c.args.from (omega arith))))
 
-pub bounds-number-i : goal.bounds-number-i
-bounds-number-i c = search rules
-
-pub is_digit-requires : goal.is_digit-requires
-is_digit-requires c = search rules
-
 pub returns-then-not-is_digit : goal.returns-then-not-is_digit
 returns-then-not-is_digit c =
     let k = c.loop-i in
@@ -25,12 +19,6 @@ returns-then-not-is_digit c =
 
 pub with_digit-m-requires : goal.with_digit-m-requires
 with_digit-m-requires c = (omega arith, sym c.is_digit.ensures ∙ c.if-not-is_digit.false)
-
-pub overflow_add-i : goal.overflow_add-i
-overflow_add-i c = search rules
-
-pub loop-i-smaller : goal.loop-i-smaller
-loop-i-smaller c = omega arith
 
 pub loop-i-preserved : goal.loop-i-preserved
 loop-i-preserved c =

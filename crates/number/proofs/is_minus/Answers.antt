@@ -1,10 +1,6 @@
 -- `number::is_minus` meets its contract: the two cases are those of the definition.
 use Rattle.number.proofs.Decimals.{empty_nil, nonempty_cons}
-use borrow.Author.Rules.{rules}
 use Rattle.number.proofs.is_minus.Goals as goal
-
-pub bounds-number-0 : goal.bounds-number-0
-bounds-number-0 c = search rules
 
 pub returns-then-number-eq0 : goal.returns-then-number-eq0
 returns-then-number-eq0 c = rw (empty_nil c.args.number.now c.if-number-eq0.true)

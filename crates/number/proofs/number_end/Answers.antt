@@ -1,6 +1,5 @@
 use mathlib.Core.Path.{◌∙◌, sym}
 use native.Mathlib.Omega.{arith}
-use borrow.Author.Rules.{rules}
 use mathlib.Core.Path.{refl}
 use Rattle.number.proofs.Runs.{run_more, run_stops, run_ends}
 use Rattle.number.proofs.number_end.Goals as goal
@@ -8,23 +7,11 @@ use Rattle.number.proofs.number_end.Goals as goal
 pub loop-i-init : goal.loop-i-init
 loop-i-init c = refl
 
-pub bounds-text-i : goal.bounds-text-i
-bounds-text-i c = search rules
-
-pub in_number-requires : goal.in_number-requires
-in_number-requires c = search rules
-
 pub returns-then-not-in_number : goal.returns-then-not-in_number
 returns-then-not-in_number c =
     let k = c.loop-i in
     sym (run_stops c.args.text.now k.i (omega arith)
     (sym c.in_number.ensures ∙ c.if-not-in_number.true)) ∙ k.invariant
-
-pub overflow_add-i : goal.overflow_add-i
-overflow_add-i c = search rules
-
-pub loop-i-smaller : goal.loop-i-smaller
-loop-i-smaller c = omega arith
 
 pub loop-i-preserved : goal.loop-i-preserved
 loop-i-preserved c =

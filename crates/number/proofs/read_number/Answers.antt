@@ -10,38 +10,13 @@ use Rattle.number.specs.declared.Number.TheVariants.{Value}
 use Rattle.number.specs.Numbers.{number_at}
 use Rattle.number.proofs.Runs.{run_within}
 use Rattle.number.proofs.Decimals.{kept, read_kept}
-use borrow.Author.Rules.{rules}
 use Rattle.number.proofs.read_number.Goals as goal
 
 pub returns-then-text-at : goal.returns-then-text-at
 returns-then-text-at c = rw (drop_of_length-le c.args.text.now (le_of_lt c.if-text-at.true))
 
-pub number_end-end-requires : goal.number_end-end-requires
-number_end-end-requires c = search rules
-
-pub slice_bounds-number-count : goal.slice_bounds-number-count
-slice_bounds-number-count c = search rules
-
-pub slice_bounds-number-start : goal.slice_bounds-number-start
-slice_bounds-number-start c = search rules
-
 pub slice_bounds-number-end : goal.slice_bounds-number-end
 slice_bounds-number-end c = rw c.number_end-end.ensures (run_within c.args.text.now c.args.at c.if-text-at.false)
-
-pub is_minus-minus-requires : goal.is_minus-minus-requires
-is_minus-minus-requires c = search rules
-
-pub sign_width-from-requires : goal.sign_width-from-requires
-sign_width-from-requires c = search rules
-
-pub digits_from-digits-requires : goal.digits_from-digits-requires
-digits_from-digits-requires c = search rules
-
-pub enum_known-digits : goal.enum_known-digits
-enum_known-digits c = search rules
-
-pub enum_told-1 : goal.enum_told-1
-enum_told-1 c = search rules
 
 pub returns-in_default : goal.returns-in_default
 returns-in_default c =
@@ -49,12 +24,6 @@ returns-in_default c =
     c.number_end-end.result c.sign_width-from.result c.is_minus-minus.result c.digits_from-digits.result
     c.number_end-end.ensures c.is_minus-minus.ensures c.sign_width-from.ensures c.digits_from-digits.ensures in
     sym (steps ∙ ap (kept _ _ _) c.in_default.is)
-
-pub greatest_magnitude-requires : goal.greatest_magnitude-requires
-greatest_magnitude-requires c = search rules
-
-pub with_sign-requires : goal.with_sign-requires
-with_sign-requires c = search rules
 
 pub returns-then-m-greatest_magnitude : goal.returns-then-m-greatest_magnitude
 returns-then-m-greatest_magnitude c =

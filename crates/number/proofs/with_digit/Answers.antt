@@ -4,24 +4,8 @@ use borrow.Author.Tests.{leb-true}
 use lib.Dec.{leb}
 use Rattle.number.specs.Bytes.{zero_byte, nine_byte}
 use Rattle.number.proofs.Bools.{and_left}
-use borrow.Author.Rules.{rules}
 use Rattle.number.proofs.with_digit.Goals as goal
-
-pub overflow_mul-next : goal.overflow_mul-next
-overflow_mul-next c = search rules
 
 pub overflow_sub-next : goal.overflow_sub-next
 overflow_sub-next c =
     omega (arith, leb-true zero_byte c.args.b (and_left (leb zero_byte c.args.b) (leb c.args.b nine_byte) c.requires.1))
-
-pub overflow_cast-next : goal.overflow_cast-next
-overflow_cast-next c = search rules
-
-pub overflow_add-next : goal.overflow_add-next
-overflow_add-next c = search rules
-
-pub returns-then-next-lt-BEYOND : goal.returns-then-next-lt-BEYOND
-returns-then-next-lt-BEYOND c = search rules
-
-pub returns-else-next-lt-BEYOND : goal.returns-else-next-lt-BEYOND
-returns-else-next-lt-BEYOND c = search rules

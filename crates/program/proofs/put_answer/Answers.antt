@@ -3,7 +3,6 @@ use Prim.Native.Nat.{ℕ, ◌≤◌}
 use mathlib.Core.Path.{◌≡◌, refl, ap, sym, ◌∙◌}
 use mathlib.Core.List.{List}
 use native.Mathlib.Omega.{arith}
-use borrow.Author.Rules.{rules}
 use lib.IntN.{pos}
 use lib.ListN.{length, take, replicate}
 use lib.Seq.{length-take-le}
@@ -19,36 +18,12 @@ use Rattle.program.proofs.put_answer.Goals as goal
 same : {w w' : List ℕ} (r : ℕ) (t t' : List ℕ) → w' ≡ w → (r ≡ length w) × (t' ≡ put 0 w t) → (r ≡ length w') × (t' ≡ put 0 w' t)
 same r t t' e h = rw e h
 
-pub max_input-most-requires : goal.max_input-most-requires
-max_input-most-requires c = search rules
-
-pub put_refusal-requires : goal.put_refusal-requires
-put_refusal-requires c = search rules
-
-pub shape_of-output-then-most-input : goal.shape_of-output-then-most-input
-shape_of-output-then-most-input c = search rules
-
 pub returns-then-most-input : goal.returns-then-most-input
 returns-then-most-input c =
     let m = c.max_input-most.ensures in
     let both = same c.put_refusal.result c.args.output.now c.put_refusal.new.output (large_printed c.args.input.now (rw m at c.if-most-input.true))
     (rw m at c.put_refusal.ensures.value, rw m at c.put_refusal.ensures.output_after) in
     record { value = both.0; output_after = both.1 }
-
-pub slice_bounds-read-end : goal.slice_bounds-read-end
-slice_bounds-read-end c = search rules
-
-pub read-read-requires : goal.read-read-requires
-read-read-requires c = search rules
-
-pub overflow_cast-code : goal.overflow_cast-code
-overflow_cast-code c = search rules
-
-pub put_refusal-requires-then-code-ne0 : goal.put_refusal-requires-then-code-ne0
-put_refusal-requires-then-code-ne0 c = search rules
-
-pub shape_of-output-then-code-ne0 : goal.shape_of-output-then-code-ne0
-shape_of-output-then-code-ne0 c = search rules
 
 pub returns-then-code-ne0 : goal.returns-then-code-ne0
 returns-then-code-ne0 c =
@@ -87,9 +62,6 @@ put_cut-requires c =
     ∙ entries_part input (accepted ok) (replicate input_entries (pos 0)) c.read-read.new.list refl c.read-read.ensures.list_after in
     let ok = c.if-code-ne0.false in
     (rw (part ok) (entries_read input (accepted ok)), c.requires)
-
-pub shape_of-output : goal.shape_of-output
-shape_of-output c = search rules
 
 pub returns : goal.returns
 returns c =

@@ -3,7 +3,6 @@ use Prim.Native.Nat.{ℕ, ◌+◌, ◌*◌, ◌≤◌}
 use mathlib.Core.Path.{◌≡◌, refl, ap, sym, ◌∙◌}
 use mathlib.Core.List.{List}
 use native.Mathlib.Omega.{arith}
-use borrow.Author.Rules.{rules}
 use lib.IntN.{ℤ, pos}
 use lib.ListN.{length, take, replicate}
 use lib.Seq.{length-take-le}
@@ -24,33 +23,6 @@ entries = replicate input_entries (pos 0)
 abbrev words : List ℕ
 words = replicate (4 * input_entries) 0
 
-pub vertex_count-n-requires : goal.vertex_count-n-requires
-vertex_count-n-requires c = search rules
-
-pub slice_bounds-cut-end : goal.slice_bounds-cut-end
-slice_bounds-cut-end c = search rules
-
-pub slice_bounds-cut-end-2 : goal.slice_bounds-cut-end-2
-slice_bounds-cut-end-2 c = search rules
-
-pub slice_bounds-cut-end-3 : goal.slice_bounds-cut-end-3
-slice_bounds-cut-end-3 c = search rules
-
-pub cut-answer-requires : goal.cut-answer-requires
-cut-answer-requires c = search rules
-
-pub numbers-numbers-requires : goal.numbers-numbers-requires
-numbers-numbers-requires c = search rules
-
-pub slice_bounds-put_line-end : goal.slice_bounds-put_line-end
-slice_bounds-put_line-end c = search rules
-
-pub put_line-at-requires : goal.put_line-at-requires
-put_line-at-requires c = search rules
-
-pub shape_of-output-then-code-ne0 : goal.shape_of-output-then-code-ne0
-shape_of-output-then-code-ne0 c = search rules
-
 pub returns-then-code-ne0 : goal.returns-then-code-ne0
 returns-then-code-ne0 c =
     let l : List ℤ = c.args.list.now in
@@ -63,9 +35,6 @@ returns-then-code-ne0 c =
     let put_is : c.put_line-at.new.output ≡ put 0 (line (cut_numbers (cut_answer l))) output = c.put_line-at.ensures.output_after ∙ ap (λ (xs : List ℕ). put 0 (line xs) output) numbers in
     let e = refused_printed l (λ z. c.if-code-ne0.true (ap (λ (r : CutAnswer). r.code) answer ∙ z)) in
     record { value = at-is ∙ ap length (sym e); output_after = put_is ∙ ap (λ (w : List ℕ). put 0 w c.args.output.now) (sym e) }
-
-pub slice_bounds-new_list-end : goal.slice_bounds-new_list-end
-slice_bounds-new_list-end c = search rules
 
 pub slice_bounds-put_list-end : goal.slice_bounds-put_list-end
 slice_bounds-put_list-end c =
@@ -131,9 +100,6 @@ put_list-requires c =
     let w = written c.if-code-ne0.false in
     rw w.new_map
     (w.map_few, omega (arith, at_small, c.put_line-at.auto.output, c.put_list-end.auto.output, behind-is, c.requires.1, w.list_short, w.map_short))
-
-pub shape_of-output : goal.shape_of-output
-shape_of-output c = search rules
 
 pub returns : goal.returns
 returns c =

@@ -10,15 +10,6 @@ use Rattle.renumber.proofs.fill_list.Goals.{then-end_at, else-end_at}
 pub loop-i-init : goal.loop-i-init
 loop-i-init c = (omega arith, refl, list_start c.args.list.now c.args.w.now c.args.new_list.now)
 
-pub end_at-requires : goal.end_at-requires
-end_at-requires c = search rules
-
-pub copy_entry-requires : goal.copy_entry-requires
-copy_entry-requires c = search rules
-
-pub offset_bounds-w-e : goal.offset_bounds-w-e
-offset_bounds-w-e c = omega arith
-
 pub bounds-w-e : goal.bounds-w-e
 bounds-w-e c =
     let inside : c.loop-i.e < length c.args.w.now = omega (arith, walk_inside c.args.list.now c.loop-i.e c.loop-i.i c.loop-i-test.true c.loop-i.invariant.2.walk (sym c.end_at.ensures ∙ c.if-end_at.false)) in
@@ -28,15 +19,6 @@ pub put_entry-requires : goal.put_entry-requires
 put_entry-requires c =
     let inside : c.loop-i.e < length c.args.w.now = omega (arith, walk_inside c.args.list.now c.loop-i.e c.loop-i.i c.loop-i-test.true c.loop-i.invariant.2.walk (sym c.end_at.ensures ∙ c.if-end_at.false)) in
     (search rules, c.requires.2 c.loop-i.e inside)
-
-pub overflow_add-e : goal.overflow_add-e
-overflow_add-e c = omega arith
-
-pub overflow_step-i : goal.overflow_step-i
-overflow_step-i c = omega arith
-
-pub loop-i-smaller : goal.loop-i-smaller
-loop-i-smaller c = omega arith
 
 pub loop-i-preserved : goal.loop-i-preserved
 loop-i-preserved c =
@@ -49,9 +31,6 @@ loop-i-preserved c =
         | else-end_at w ↦ rw (w.new_list-is, w.e-is, w.put_entry.ensures) (turn.corner (sym end ∙ w.if-end_at.false))
       ],
     )
-
-pub shape_of-new_list : goal.shape_of-new_list
-shape_of-new_list c = omega arith
 
 pub returns : goal.returns
 returns c =

@@ -5,14 +5,10 @@ use Prim.Native.Nat.{◌≤◌}
 use lib.ListN.{length}
 use lib.Seq.{length-take-le}
 use Rattle.renumber.proofs.Numbering.{number_low, renumbered}
-use borrow.Author.Rules.{rules}
 use Rattle.renumber.proofs.renumber.Goals as goal
 
 pub number-vertices-requires : goal.number-vertices-requires
 number-vertices-requires c = (c.requires.0.words, c.requires.2)
-
-pub slice_bounds-fill_list-end : goal.slice_bounds-fill_list-end
-slice_bounds-fill_list-end c = search rules
 
 pub slice_bounds-fill_list-end-2 : goal.slice_bounds-fill_list-end-2
 slice_bounds-fill_list-end-2 c =
@@ -25,15 +21,6 @@ fill_list-requires c =
       omega (arith, length-take-le c.args.c c.number-vertices.new.w long, c.requires.0.count),
       λ e h. omega (arith, number_low c.number-vertices.new.w c.args.c long c.number-vertices.ensures.low e h, c.requires.0.words.few),
     )
-
-pub shape_of-w : goal.shape_of-w
-shape_of-w c = search rules
-
-pub shape_of-new_list : goal.shape_of-new_list
-shape_of-new_list c = search rules
-
-pub shape_of-map : goal.shape_of-map
-shape_of-map c = search rules
 
 pub returns : goal.returns
 returns c =

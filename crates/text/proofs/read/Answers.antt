@@ -13,17 +13,7 @@ use Rattle.text.specs.Reading.{read_of, values_of}
 use Rattle.text.specs.declared.ReadAnswer.{ReadAnswer}
 use Rattle.number.proofs.Bools.{and_left}
 use Rattle.text.proofs.Whole.{whole_unopened, read_inside, read_entries, read_fits, into_refused, refused_not}
-use borrow.Author.Rules.{rules}
 use Rattle.text.proofs.read.Goals as goal
-
-pub skip-start-requires : goal.skip-start-requires
-skip-start-requires c = search rules
-
-pub opens_at-requires : goal.opens_at-requires
-opens_at-requires c = search rules
-
-pub refused_read-requires : goal.refused_read-requires
-refused_read-requires c = search rules
 
 pub returns-then-not-opens_at : goal.returns-then-not-opens_at
 returns-then-not-opens_at c =
@@ -39,12 +29,6 @@ overflow_add-at c =
     let a = c.args in
     omega (arith, ltb-true c.skip-start.result (length a.text.now) (and_left (ltb c.skip-start.result (length a.text.now)) (eqb (get_or a.text.now c.skip-start.result 0) open_byte) head))
 
-pub room_of-requires : goal.room_of-requires
-room_of-requires c = search rules
-
-pub look-answer-requires : goal.look-answer-requires
-look-answer-requires c = search rules
-
 pub fill-requires : goal.fill-requires
 fill-requires c =
     let head : (ltb c.skip-start.result (length c.args.text.now) && eqb (get_or c.args.text.now c.skip-start.result 0) open_byte) ≡ true = sym c.opens_at.ensures ∙ c.if-not-opens_at.false in
@@ -54,9 +38,6 @@ fill-requires c =
     let a = c.args in
     let k : c.look-answer.result.entries ≤ length a.list.now = rw answer (read_fits a.text.now (length a.list.now)) in
     omega arith
-
-pub shape_of-list : goal.shape_of-list
-shape_of-list c = search rules
 
 pub returns-then-code-eq0 : goal.returns-then-code-eq0
 returns-then-code-eq0 c =

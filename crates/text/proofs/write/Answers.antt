@@ -7,14 +7,7 @@ use Rattle.list.specs.Limits.{max_entries}
 use Rattle.number.specs.Codes.{too_long, no_room_code}
 use Rattle.text.specs.Writing.{written, refused_write, accepted_write}
 use Rattle.text.proofs.Writes.{write_long, write_short, write_fits, into_kept, into_written, put_front}
-use borrow.Author.Rules.{rules}
 use Rattle.text.proofs.write.Goals as goal
-
-pub max_entries-most-requires : goal.max_entries-most-requires
-max_entries-most-requires c = search rules
-
-pub refused_write-requires : goal.refused_write-requires
-refused_write-requires c = search rules
 
 pub returns-then-most-list : goal.returns-then-most-list
 returns-then-most-list c =
@@ -22,24 +15,12 @@ returns-then-most-list c =
     let e = write_long a.list.now (length a.text.now) (omega arith) in
     record { value = c.refused_write.ensures ∙ sym e; text_after = sym (into_kept a.list.now a.text.now too_long 0 (omega arith) e) }
 
-pub text_length-needed-requires : goal.text_length-needed-requires
-text_length-needed-requires c = search rules
-
-pub refused_write-requires-then-text-needed : goal.refused_write-requires-then-text-needed
-refused_write-requires-then-text-needed c = search rules
-
 pub returns-then-text-needed : goal.returns-then-text-needed
 returns-then-text-needed c =
     let a = c.args in
     let n = c.text_length-needed.ensures in
     let e = write_short a.list.now (length a.text.now) (omega arith) (omega arith) in
     record { value = c.refused_write-then-text-needed.ensures ∙ ap (refused_write no_room_code) n ∙ sym e; text_after = sym (into_kept a.list.now a.text.now no_room_code (length (written a.list.now)) (omega arith) e) }
-
-pub put_text-requires : goal.put_text-requires
-put_text-requires c = search rules
-
-pub shape_of-text : goal.shape_of-text
-shape_of-text c = search rules
 
 pub returns : goal.returns
 returns c =

@@ -3,7 +3,6 @@ use mathlib.Core.Path.{◌≡◌, sym, ◌∙◌, ap, ap₂}
 use mathlib.Core.List.{[]}
 use native.Mathlib.Omega.{arith}
 use native.Mathlib.Nat.{zero-add}
-use borrow.Author.Rules.{rules}
 use lib.IntN.{pos}
 use lib.ListN.{length, get_or, drop, drop_of_length-le}
 use Rattle.list.specs.Faces.{num, vertices}
@@ -20,28 +19,10 @@ use Rattle.edges.proofs.face.uses_on.Goals.{then-is_edge, else-is_edge}
 pub loop-i-init : goal.loop-i-init
 loop-i-init c = (omega arith, zero-add _)
 
-pub vertex_at-from-requires : goal.vertex_at-from-requires
-vertex_at-from-requires c = search rules
-
-pub next_in-requires : goal.next_in-requires
-next_in-requires c = search rules
-
-pub vertex_at-to-requires : goal.vertex_at-to-requires
-vertex_at-to-requires c = search rules
-
-pub is_edge-requires : goal.is_edge-requires
-is_edge-requires c = search rules
-
 pub overflow_add-count : goal.overflow_add-count
 overflow_add-count c =
     let long : length (uses_of_face 0 (vertices c.args.face.now)) ≡ length c.args.face.now = uses_face_long 0 (vertices c.args.face.now) ∙ vertices_long c.args.face.now in
     omega (arith, c.loop-i.invariant.1, choose_few (on_edge c.args.a c.args.b) (uses_of_face 0 (vertices c.args.face.now)), long)
-
-pub overflow_add-i : goal.overflow_add-i
-overflow_add-i c = omega arith
-
-pub loop-i-smaller : goal.loop-i-smaller
-loop-i-smaller c = omega arith
 
 pub loop-i-preserved : goal.loop-i-preserved
 loop-i-preserved c =

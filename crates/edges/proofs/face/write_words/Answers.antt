@@ -1,7 +1,7 @@
 use Prim.Native.Nat.{ℕ, ◌+◌, ◌*◌, ◌<◌}
 use mathlib.Core.Path.{◌≡◌, ◌∙◌, ap, ap₂}
 use native.Mathlib.Omega.{arith}
-use borrow.Author.Rules.{rules, scaled_Fits}
+use borrow.Author.Rules.{scaled_Fits}
 use lib.IntN.{pos}
 use lib.ListN.{length, get_or, length-set}
 use Rattle.list.specs.Limits.{max_vertices}
@@ -13,23 +13,8 @@ use Rattle.edges.proofs.Uses.{next_inside, next_later}
 use Rattle.edges.proofs.Filling.{two_none, two_long, two_turn, words_long, key_word, corner_word_lem}
 use Rattle.edges.proofs.face.write_words.Goals as goal
 
-pub overflow_mul-words : goal.overflow_mul-words
-overflow_mul-words c = omega arith
-
-pub overflow_add-words : goal.overflow_add-words
-overflow_add-words c = omega arith
-
-pub vertex_at-from-requires : goal.vertex_at-from-requires
-vertex_at-from-requires c = search rules
-
 pub loop-i-init : goal.loop-i-init
 loop-i-init c = (omega arith, two_none _ _ _ _ _, λ h. c.vertex_at-from.ensures)
-
-pub next_in-j-requires : goal.next_in-j-requires
-next_in-j-requires c = search rules
-
-pub vertex_at-to-requires : goal.vertex_at-to-requires
-vertex_at-to-requires c = search rules
 
 pub key-requires : goal.key-requires
 key-requires c =
@@ -38,9 +23,6 @@ key-requires c =
     let next-within : c.next_in-j.result < length c.args.face.now = omega (arith, c.next_in-j.ensures, next_inside _ _ c.loop-i-test.true) in
     let j = c.next_in-j.result in
     (from_in, omega (arith, c.vertex_at-to.ensures, vertex_of c.args.face.now j, c.requires.by_index j next-within))
-
-pub overflow_add-work : goal.overflow_add-work
-overflow_add-work c = omega arith
 
 pub offset_bounds-work-at : goal.offset_bounds-work-at
 offset_bounds-work-at c = scaled_Fits _ _ _ (omega arith) c.well_formed.1.0.1
@@ -62,9 +44,6 @@ corner-requires c =
     omega (arith, c.loop-i.invariant.2 c.loop-i-test.true, vertex_of c.args.face.now i, c.requires.by_index i c.loop-i-test.true)) in
     (omega (arith, next-within), from_in)
 
-pub overflow_add-work-in-loop-i : goal.overflow_add-work-in-loop-i
-overflow_add-work-in-loop-i c = omega arith
-
 pub offset_bounds-work-words : goal.offset_bounds-work-words
 offset_bounds-work-words c = scaled_Fits _ _ _ (omega arith) c.well_formed.1.0.1
 
@@ -72,12 +51,6 @@ pub bounds-work-words : goal.bounds-work-words
 bounds-work-words c =
     let long : length c.loop-i.work ≡ length c.args.work.now = two_long _ _ _ _ _ _ _ c.loop-i.invariant.1 in
     omega (arith, long, length-set c.loop-i.work (c.args.at + c.loop-i.i) c.key.result)
-
-pub overflow_add-i : goal.overflow_add-i
-overflow_add-i c = omega arith
-
-pub loop-i-smaller : goal.loop-i-smaller
-loop-i-smaller c = omega arith
 
 pub loop-i-preserved : goal.loop-i-preserved
 loop-i-preserved c =

@@ -6,20 +6,8 @@ use Rattle.fans.proofs.marks.clear_marks.Goals as goal
 pub loop-v-init : goal.loop-v-init
 loop-v-init c = (refl, cleared_start c.args.marks.now)
 
-pub bounds-marks-v : goal.bounds-marks-v
-bounds-marks-v c = omega arith
-
-pub overflow_step-v : goal.overflow_step-v
-overflow_step-v c = omega arith
-
-pub loop-v-smaller : goal.loop-v-smaller
-loop-v-smaller c = omega arith
-
 pub loop-v-preserved : goal.loop-v-preserved
 loop-v-preserved c = (refl, cleared_more c.args.marks.now c.loop-v.marks c.loop-v.v (omega arith) c.loop-v.invariant.1)
-
-pub shape_of-marks : goal.shape_of-marks
-shape_of-marks c = omega arith
 
 pub returns : goal.returns
 returns c =

@@ -4,20 +4,13 @@ use native.Mathlib.Omega.{arith}
 use lib.ListN.{length}
 use Rattle.fans.proofs.Classing.{grouped_classes}
 use Rattle.fans.specs.Marks.{final_mark}
-use borrow.Author.Rules.{rules}
 use Rattle.fans.proofs.marks.mark.Goals as goal
-
-pub clear_marks-requires : goal.clear_marks-requires
-clear_marks-requires c = search rules
 
 pub mark_fans-requires : goal.mark_fans-requires
 mark_fans-requires c = (rw c.clear_marks.auto.marks c.requires, rw c.clear_marks.auto.marks c.clear_marks.ensures)
 
 pub mark_ends-requires : goal.mark_ends-requires
 mark_ends-requires c = rw (c.mark_fans.auto.marks, c.clear_marks.auto.marks) c.requires
-
-pub shape_of-marks : goal.shape_of-marks
-shape_of-marks c = search rules
 
 pub returns : goal.returns
 returns c =

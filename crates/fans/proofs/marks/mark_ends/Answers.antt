@@ -9,38 +9,11 @@ use Rattle.fans.proofs.marks.mark_ends.Goals.{then-m-e, else-m-e+then-m-c, else-
 pub loop-e-init : goal.loop-e-init
 loop-e-init c = (omega arith, end_start c.args.w.now c.args.c c.args.marks.now)
 
-pub overflow_mul-m : goal.overflow_mul-m
-overflow_mul-m c = omega arith
-
-pub overflow_add-m : goal.overflow_add-m
-overflow_add-m c = omega arith
-
-pub offset_bounds-w-c : goal.offset_bounds-w-c
-offset_bounds-w-c c = omega arith
-
-pub bounds-w-c : goal.bounds-w-c
-bounds-w-c c = omega arith
-
 pub overflow_cast-m : goal.overflow_cast-m
 overflow_cast-m c = omega (arith, c.shared_slice_known-in-loop-e-1.given (2 * c.args.c + c.loop-e.e))
 
-pub overflow_add-from : goal.overflow_add-from
-overflow_add-from c = omega arith
-
-pub offset_bounds-w-c-in-loop-e : goal.offset_bounds-w-c-in-loop-e
-offset_bounds-w-c-in-loop-e c = omega arith
-
-pub bounds-w-c-in-loop-e : goal.bounds-w-c-in-loop-e
-bounds-w-c-in-loop-e c = omega arith
-
 pub overflow_cast-from : goal.overflow_cast-from
 overflow_cast-from c = omega (arith, c.shared_slice_known-in-loop-e-2-1.given (c.args.c + c.loop-e.e))
-
-pub offset_bounds-w-e : goal.offset_bounds-w-e
-offset_bounds-w-e c = omega arith
-
-pub bounds-w-e : goal.bounds-w-e
-bounds-w-e c = omega arith
 
 pub overflow_cast-f : goal.overflow_cast-f
 overflow_cast-f c = omega (arith, c.shared_slice_known-in-loop-e-3-1.given c.loop-e.e)
@@ -83,12 +56,6 @@ bounds-marks-to c =
     let to_in : at c.args.w.now (c.args.c + at c.args.w.now c.loop-e.e) < length c.loop-e.marks = to_inside c.args.w.now c.args.c (length c.args.marks.now) c.requires c.loop-e.marks c.loop-e.invariant.1.size c.loop-e.e c.loop-e-test.true in
     simp length-set to_in
 
-pub overflow_step-e : goal.overflow_step-e
-overflow_step-e c = omega arith
-
-pub loop-e-smaller : goal.loop-e-smaller
-loop-e-smaller c = omega arith
-
 pub loop-e-preserved : goal.loop-e-preserved
 loop-e-preserved c =
     let turn = end_turn c.args.w.now c.args.c c.args.marks.now c.requires c.loop-e.marks c.loop-e.e c.loop-e-test.true c.loop-e.invariant.1 in (
@@ -99,9 +66,6 @@ loop-e-preserved c =
         | else-m-e+else-m-c w ↦ rw w.marks-is (turn.regular w.if-m-e.false w.if-m-c.false)
       ],
     )
-
-pub shape_of-marks : goal.shape_of-marks
-shape_of-marks c = omega arith
 
 pub returns : goal.returns
 returns c =

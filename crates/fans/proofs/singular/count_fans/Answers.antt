@@ -1,4 +1,3 @@
-use borrow.Author.Rules.{rules}
 use native.Mathlib.Omega.{arith}
 use Prim.Native.Nat.{◌<◌}
 use mathlib.Core.Path.{refl}
@@ -10,34 +9,19 @@ use Rattle.fans.proofs.singular.count_fans.Goals as goal
 pub loop-i-init : goal.loop-i-init
 loop-i-init c = (omega arith, refl, fans_start c.args.map.now c.args.marks.now)
 
-pub vertex_at-v-requires : goal.vertex_at-v-requires
-vertex_at-v-requires c = search rules
-
 pub bounds-marks-v : goal.bounds-marks-v
 bounds-marks-v c =
     let inside : c.vertex_at-v.result < length c.args.marks.now = omega (arith, c.vertex_at-v.ensures, c.requires c.loop-i.i c.loop-i-test.true) in
     omega (arith, inside, c.loop-i.invariant.2.size)
-
-pub fan_met-requires : goal.fan_met-requires
-fan_met-requires c = search rules
 
 pub bounds-marks-v-in-loop-i : goal.bounds-marks-v-in-loop-i
 bounds-marks-v-in-loop-i c =
     let inside : c.vertex_at-v.result < length c.args.marks.now = omega (arith, c.vertex_at-v.ensures, c.requires c.loop-i.i c.loop-i-test.true) in
     omega (arith, inside, c.loop-i.invariant.2.size)
 
-pub second_fan-k-requires : goal.second_fan-k-requires
-second_fan-k-requires c = search rules
-
 pub overflow_add-k : goal.overflow_add-k
 overflow_add-k c =
     omega (arith, c.second_fan-k.ensures, second_few (at c.loop-i.marks c.vertex_at-v.result), c.loop-i.invariant.2.few)
-
-pub overflow_step-i : goal.overflow_step-i
-overflow_step-i c = omega arith
-
-pub loop-i-smaller : goal.loop-i-smaller
-loop-i-smaller c = omega arith
 
 pub loop-i-preserved : goal.loop-i-preserved
 loop-i-preserved c =
@@ -46,9 +30,6 @@ loop-i-preserved c =
       refl,
       fans_more c.args.map.now c.args.marks.now c.loop-i.marks c.loop-i.k c.loop-i.i c.vertex_at-v.result c.fan_met.result c.second_fan-k.result c.loop-i-test.true c.vertex_at-v.ensures inside c.fan_met.ensures c.second_fan-k.ensures c.loop-i.invariant.2,
     )
-
-pub shape_of-marks : goal.shape_of-marks
-shape_of-marks c = omega arith
 
 pub returns : goal.returns
 returns c =

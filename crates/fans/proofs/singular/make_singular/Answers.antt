@@ -1,22 +1,9 @@
 -- `singular::make_singular` meets its contract: the mark that was there says whether the vertex was singular before.
-use borrow.Author.Rules.{rules}
 use Rattle.fans.proofs.SingularCount.{made_before, made_now}
 use Rattle.fans.proofs.singular.make_singular.Goals as goal
 
-pub bounds-marks-v : goal.bounds-marks-v
-bounds-marks-v c = search rules
-
-pub bounds-marks-v-2 : goal.bounds-marks-v-2
-bounds-marks-v-2 c = search rules
-
-pub shape_of-marks-then-m-ge2 : goal.shape_of-marks-then-m-ge2
-shape_of-marks-then-m-ge2 c = search rules
-
 pub returns-then-m-ge2 : goal.returns-then-m-ge2
 returns-then-m-ge2 c = made_before c.args.marks.now c.args.v c.requires c.if-m-ge2.true
-
-pub shape_of-marks-else-m-ge2 : goal.shape_of-marks-else-m-ge2
-shape_of-marks-else-m-ge2 c = search rules
 
 pub returns-else-m-ge2 : goal.returns-else-m-ge2
 returns-else-m-ge2 c = made_now c.args.marks.now c.args.v c.requires c.if-m-ge2.false

@@ -10,38 +10,11 @@ use Rattle.fans.proofs.singular.mark_singular_ends.Goals.{then-w-c, else-w-c}
 pub loop-e-init : goal.loop-e-init
 loop-e-init c = (omega arith, ends_start c.args.w.now c.args.c (length c.args.marks.now) c.args.marks.now refl c.requires.1)
 
-pub overflow_mul-c : goal.overflow_mul-c
-overflow_mul-c c = omega arith
-
-pub overflow_add-c : goal.overflow_add-c
-overflow_add-c c = omega arith
-
-pub offset_bounds-w-c : goal.offset_bounds-w-c
-offset_bounds-w-c c = omega arith
-
-pub bounds-w-c : goal.bounds-w-c
-bounds-w-c c = omega arith
-
 pub overflow_cast-w : goal.overflow_cast-w
 overflow_cast-w c = omega (arith, c.shared_slice_known-in-loop-e-1.given (2 * c.args.c + c.loop-e.e))
 
-pub offset_bounds-w-e : goal.offset_bounds-w-e
-offset_bounds-w-e c = omega arith
-
-pub bounds-w-e : goal.bounds-w-e
-bounds-w-e c = omega arith
-
 pub overflow_cast-f : goal.overflow_cast-f
 overflow_cast-f c = omega (arith, c.shared_slice_known-then-w-c-1.given c.loop-e.e)
-
-pub overflow_add-c-then-w-c : goal.overflow_add-c-then-w-c
-overflow_add-c-then-w-c c = omega arith
-
-pub offset_bounds-w-c-then-w-c : goal.offset_bounds-w-c-then-w-c
-offset_bounds-w-c-then-w-c c = omega arith
-
-pub bounds-w-c-then-w-c : goal.bounds-w-c-then-w-c
-bounds-w-c-then-w-c c = omega arith
 
 pub overflow_cast-w-then-w-c : goal.overflow_cast-w-then-w-c
 overflow_cast-w-then-w-c c =
@@ -84,12 +57,6 @@ make_singular-k-requires-then-w-c c =
 pub overflow_add-k-then-w-c : goal.overflow_add-k-then-w-c
 overflow_add-k-then-w-c c = omega (arith, c.make_singular-k-then-w-c.ensures.few, c.make_singular-k.ensures.few, c.loop-e.invariant.1.few)
 
-pub overflow_step-e : goal.overflow_step-e
-overflow_step-e c = omega arith
-
-pub loop-e-smaller : goal.loop-e-smaller
-loop-e-smaller c = omega arith
-
 pub loop-e-preserved : goal.loop-e-preserved
 loop-e-preserved c =
     let turn : EndsTurn c.args.w.now c.args.c (length c.args.marks.now) c.loop-e.marks c.loop-e.k c.loop-e.e = ends_turn c.args.w.now c.args.c (length c.args.marks.now) c.requires.0 c.loop-e.marks c.loop-e.k c.loop-e.e c.loop-e-test.true c.loop-e.invariant.1 in (
@@ -100,9 +67,6 @@ loop-e-preserved c =
         | else-w-c w ↦ rw (w.marks-is, w.k-is) (turn.other w.if-w-c.false)
       ],
     )
-
-pub shape_of-marks : goal.shape_of-marks
-shape_of-marks c = omega arith
 
 pub returns : goal.returns
 returns c =

@@ -2,11 +2,7 @@
 use mathlib.Core.Path.{sym}
 use native.Mathlib.Omega.{arith}
 use Rattle.list.proofs.Runs.{run_inside, step_face, step_done}
-use borrow.Author.Rules.{rules}
 use Rattle.list.proofs.Cursor.next.Goals as goal
-
-pub run_end-end-requires : goal.run_end-end-requires
-run_end-end-requires c = search rules
 
 pub returns-then-list-start : goal.returns-then-list-start
 returns-then-list-start c = sym (step_done c.args.list.now c.args.self.at c.if-list-start.true)

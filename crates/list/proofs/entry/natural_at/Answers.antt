@@ -1,15 +1,8 @@
 -- `entry::natural_at` meets its contract: an entry that is not negative is its own magnitude.
-use borrow.Author.Rules.{rules}
 use lib.IntN.{ℤ, pos}
 use lib.ListN.{get_or}
 use Rattle.list.proofs.Signs.{natural_not_negative, num_natural, cast_natural}
 use Rattle.list.proofs.entry.natural_at.Goals as goal
-
-pub offset_bounds-l-i : goal.offset_bounds-l-i
-offset_bounds-l-i c = search rules
-
-pub bounds-l-i : goal.bounds-l-i
-bounds-l-i c = search rules
 
 pub overflow_cast-result : goal.overflow_cast-result
 overflow_cast-result c =

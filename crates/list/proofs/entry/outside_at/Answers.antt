@@ -1,15 +1,8 @@
 -- `entry::outside_at` meets its contract: an entry that is not -1 is outside where it is below zero, and from zero on where it is at least n.
 use Rattle.list.proofs.Signs.{outside_negative, outside_natural, cast_natural}
-use borrow.Author.Rules.{rules}
 use lib.IntN.{ℤ, pos}
 use lib.ListN.{get_or}
 use Rattle.list.proofs.entry.outside_at.Goals as goal
-
-pub offset_bounds-l-i : goal.offset_bounds-l-i
-offset_bounds-l-i c = search rules
-
-pub bounds-l-i : goal.bounds-l-i
-bounds-l-i c = search rules
 
 pub returns-then-x-lt0 : goal.returns-then-x-lt0
 returns-then-x-lt0 c =

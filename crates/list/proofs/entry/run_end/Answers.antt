@@ -13,12 +13,6 @@ returns-then-end_at c =
     let l = c.args.l.now in
     omega (arith, first_here is_end l i c.loop-i-test.true (sym c.end_at.ensures ∙ c.if-end_at.true))
 
-pub overflow_add-i : goal.overflow_add-i
-overflow_add-i c = omega arith
-
-pub loop-i-smaller : goal.loop-i-smaller
-loop-i-smaller c = omega arith
-
 pub loop-i-preserved : goal.loop-i-preserved
 loop-i-preserved c =
     let i = c.loop-i.i in

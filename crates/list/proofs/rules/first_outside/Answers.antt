@@ -4,9 +4,6 @@ use Rattle.list.specs.Check.{outside}
 use Rattle.list.proofs.First.{first_here, first_later, first_past}
 use Rattle.list.proofs.rules.first_outside.Goals as goal
 
-pub loop-i-init : goal.loop-i-init
-loop-i-init c = omega arith
-
 pub outside_at-requires : goal.outside_at-requires
 outside_at-requires c = (c.loop-i-test.true, c.requires c.loop-i.i c.loop-i-test.true)
 
@@ -15,12 +12,6 @@ returns-then-outside_at c =
     let a = c.args in
     let i = c.loop-i.i in
     omega (arith, first_here (outside a.n) a.face.now i c.loop-i-test.true (sym c.outside_at.ensures ∙ c.if-outside_at.true))
-
-pub overflow_add-i : goal.overflow_add-i
-overflow_add-i c = omega arith
-
-pub loop-i-smaller : goal.loop-i-smaller
-loop-i-smaller c = omega arith
 
 pub loop-i-preserved : goal.loop-i-preserved
 loop-i-preserved c =

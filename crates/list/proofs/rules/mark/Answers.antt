@@ -55,12 +55,6 @@ bounds-flags-v-in-loop-i c =
     let flags-so-far : c.loop-i.flags ≡ marked fs (seen_to vs i) = c.loop-i.invariant.2 in
     flag_room (vs) (fs) (clear) (i) (v) (inside) (vertex) c.loop-i.flags (flags-so-far)
 
-pub overflow_add-i : goal.overflow_add-i
-overflow_add-i c = omega arith
-
-pub loop-i-smaller : goal.loop-i-smaller
-loop-i-smaller c = omega arith
-
 pub loop-i-preserved : goal.loop-i-preserved
 loop-i-preserved c =
     let vs : List ℕ = vertices c.args.face.now in

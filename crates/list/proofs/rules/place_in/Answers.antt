@@ -8,9 +8,6 @@ use Rattle.list.specs.Check.{is_vertex}
 use Rattle.list.proofs.First.{first_here, first_later, first_past}
 use Rattle.list.proofs.rules.place_in.Goals as goal
 
-pub loop-i-init : goal.loop-i-init
-loop-i-init c = omega arith
-
 pub natural_at-requires : goal.natural_at-requires
 natural_at-requires c = (c.loop-i-test.true, c.requires c.loop-i.i c.loop-i-test.true)
 
@@ -19,12 +16,6 @@ returns-then-natural_at-v c =
     let a = c.args in
     let i = c.loop-i.i in
     omega (arith, first_here (is_vertex a.v) a.part.now i c.loop-i-test.true (eq-eqb a.v (num (get_or a.part.now i (pos 0))) (sym c.if-natural_at-v.true ∙ c.natural_at.ensures)), c.loop-i.invariant)
-
-pub overflow_add-i : goal.overflow_add-i
-overflow_add-i c = omega arith
-
-pub loop-i-smaller : goal.loop-i-smaller
-loop-i-smaller c = omega arith
 
 pub loop-i-preserved : goal.loop-i-preserved
 loop-i-preserved c =

@@ -34,12 +34,6 @@ returns-then-earlier-j c =
     let found : c.place_in-earlier.result < j → elem (get_or (vertices l) j 0) (seen_to (vertices l) j) ≡ true = λ h. seen true (placed c.natural_at-v.result (take j l) (omega (arith, c.place_in-earlier.ensures, part-long))) in
     unrepeated_found (vertices c.args.face.now) c.loop-j.j (inside) (found c.if-earlier-j.true) c.loop-j.invariant.1
 
-pub overflow_add-j : goal.overflow_add-j
-overflow_add-j c = omega arith
-
-pub loop-j-smaller : goal.loop-j-smaller
-loop-j-smaller c = omega arith
-
 pub loop-j-preserved : goal.loop-j-preserved
 loop-j-preserved c =
     let inside : c.loop-j.j < length (vertices c.args.face.now) = rw vertices_long c.loop-j-test.true in

@@ -11,9 +11,6 @@ use Rattle.list.proofs.rules.unmark.Goals as goal
 pub loop-j-init : goal.loop-j-init
 loop-j-init c = (omega arith, c.requires.flags)
 
-pub overflow_sub-j : goal.overflow_sub-j
-overflow_sub-j c = omega arith
-
 pub bounds-flags-v : goal.bounds-flags-v
 bounds-flags-v c =
     let vs : List ℕ = vertices c.args.face.now in
@@ -23,9 +20,6 @@ bounds-flags-v c =
     let j : ℕ = c.loop-j.j in
     let vertex : c.vertex_at-v.result ≡ get_or vs (j - 1) 0 = c.vertex_at-v.ensures ∙ sym (vertex_of c.args.face.now (j - 1)) in
     unmark_room (vs) (zs) (flags) (clear) (j) c.vertex_at-v.result c.loop-j-test.true (omega arith) (vertex) c.loop-j.invariant.1
-
-pub loop-j-smaller : goal.loop-j-smaller
-loop-j-smaller c = omega arith
 
 pub loop-j-preserved : goal.loop-j-preserved
 loop-j-preserved c =

@@ -2,19 +2,10 @@
 -- noted has another key none was met.
 use Prim.Native.Nat.{◌+◌, ◌<◌}
 use native.Mathlib.Omega.{arith}
-use borrow.Author.Rules.{rules, scaled_Fits}
+use borrow.Author.Rules.{scaled_Fits}
 use lib.ListN.{length, get_or}
 use Rattle.mates.proofs.Meeting.{place_in, look_in, last_in, look_noted, look_hit, look_miss}
 use Rattle.mates.proofs.matching.last_before.Goals as goal
-
-pub overflow_add-e : goal.overflow_add-e
-overflow_add-e c = search rules
-
-pub offset_bounds-work-c : goal.offset_bounds-work-c
-offset_bounds-work-c c = search rules
-
-pub bounds-work-c : goal.bounds-work-c
-bounds-work-c c = search rules
 
 pub overflow_cast-key : goal.overflow_cast-key
 overflow_cast-key c =
@@ -30,9 +21,6 @@ pub bounds-work-e : goal.bounds-work-e
 bounds-work-e c =
     let corner : get_or c.args.work.now (c.args.c + c.args.i) 0 < c.args.c = place_in c.args.c c.args.i c.args.work.now c.args.last.now c.requires.0 c.requires.1 in
     omega (arith, corner, c.requires.0.grouped.long)
-
-pub higher_of-d-requires : goal.higher_of-d-requires
-higher_of-d-requires c = search rules
 
 pub offset_bounds-last-d : goal.offset_bounds-last-d
 offset_bounds-last-d c =
@@ -79,15 +67,9 @@ overflow_cast-result c =
     let last : get_or c.args.last.now c.higher_of-d.result 0 < c.args.c = last_in c.args.c c.args.i c.args.work.now c.args.last.now c.requires.0 c.requires.1 c.higher_of-d.result c.higher_of-d.ensures in
     omega (arith, last, c.requires.0.grouped.few)
 
-pub shape_of-last-then-work-m : goal.shape_of-last-then-work-m
-shape_of-last-then-work-m c = search rules
-
 pub returns-then-work-m : goal.returns-then-work-m
 returns-then-work-m c =
     record { last = look_hit c.args.c c.args.i c.args.work.now c.args.last.now c.requires.0 c.requires.1 c.higher_of-d.result c.higher_of-d.ensures c.if-work-m.true; noted = look_noted c.args.c c.args.i c.args.work.now c.args.last.now c.requires.0 c.requires.1 c.higher_of-d.result c.higher_of-d.ensures }
-
-pub shape_of-last : goal.shape_of-last
-shape_of-last c = search rules
 
 pub returns : goal.returns
 returns c =

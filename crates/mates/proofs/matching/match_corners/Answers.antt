@@ -1,31 +1,18 @@
 -- `matching::match_corners` meets its contract: with 0 at every vertex none has met.
 use native.Mathlib.Omega.{arith}
-use borrow.Author.Rules.{rules}
 use Rattle.list.specs.Limits.{max_vertices}
 use Rattle.mates.proofs.Meeting.{none_met}
 use Rattle.mates.proofs.matching.match_corners.Goals as goal
 
-pub slice_bounds-meet_all-end : goal.slice_bounds-meet_all-end
-slice_bounds-meet_all-end c = search rules
-
 pub meet_all-requires : goal.meet_all-requires
 meet_all-requires c = none_met c.args.c c.args.n 4096 c.args.work.now c.requires.0 c.requires.2 (omega arith)
-
-pub shape_of-work-then-n-le-FEW_VERTICES : goal.shape_of-work-then-n-le-FEW_VERTICES
-shape_of-work-then-n-le-FEW_VERTICES c = search rules
 
 pub returns-then-n-le-FEW_VERTICES : goal.returns-then-n-le-FEW_VERTICES
 returns-then-n-le-FEW_VERTICES c =
     record { right = c.meet_all.ensures.right; counted = c.meet_all.ensures.counted; kept = c.meet_all.ensures.kept }
 
-pub slice_bounds-meet_all-end-2 : goal.slice_bounds-meet_all-end-2
-slice_bounds-meet_all-end-2 c = search rules
-
 pub meet_all-requires-2 : goal.meet_all-requires-2
 meet_all-requires-2 c = none_met c.args.c c.args.n max_vertices c.args.work.now c.requires.0 c.requires.2 c.requires.1
-
-pub shape_of-work : goal.shape_of-work
-shape_of-work c = search rules
 
 pub returns : goal.returns
 returns c =

@@ -2,22 +2,10 @@
 -- its word among one more.
 use Prim.Native.Nat.{◌+◌, ◌*◌, ◌<◌}
 use native.Mathlib.Omega.{arith}
-use borrow.Author.Rules.{rules, scaled_Fits}
+use borrow.Author.Rules.{scaled_Fits}
 use lib.ListN.{get_or, set, length-set}
 use Rattle.mates.proofs.Meeting.{place_in, Turned, found_in, pair_turn, join_turn, crowd_turn}
 use Rattle.mates.proofs.matching.meet.Goals as goal
-
-pub overflow_mul-mates : goal.overflow_mul-mates
-overflow_mul-mates c = search rules
-
-pub overflow_add-e : goal.overflow_add-e
-overflow_add-e c = search rules
-
-pub offset_bounds-work-c : goal.offset_bounds-work-c
-offset_bounds-work-c c = search rules
-
-pub bounds-work-c : goal.bounds-work-c
-bounds-work-c c = search rules
 
 pub overflow_cast-own : goal.overflow_cast-own
 overflow_cast-own c =
@@ -28,9 +16,6 @@ pub overflow_add-own : goal.overflow_add-own
 overflow_add-own c =
     let corner : get_or c.args.work.now (c.args.c + c.args.i) 0 < c.args.c = place_in c.args.c c.args.i c.args.work.now c.args.last.now c.requires.0 c.requires.1 in
     omega (arith, corner)
-
-pub last_before-a-requires : goal.last_before-a-requires
-last_before-a-requires c = search rules
 
 pub overflow_cast-other : goal.overflow_cast-other
 overflow_cast-other c =
@@ -82,19 +67,10 @@ bounds-work-other-then-b-a c =
     let other : c.last_before-a.result < c.args.c = found_in c.args.c c.args.i c.args.work.now c.args.last.now c.requires.0 c.requires.1 c.last_before-a.result c.last_before-a.new.last c.last_before-a.ensures.last c.last_before-a.ensures.noted in
     simp length-set (omega (arith, other, c.requires.0.grouped.long))
 
-pub shape_of-work-then-b-a : goal.shape_of-work-then-b-a
-shape_of-work-then-b-a c = search rules
-
-pub shape_of-last-then-b-a : goal.shape_of-last-then-b-a
-shape_of-last-then-b-a c = search rules
-
 pub returns-then-b-a : goal.returns-then-b-a
 returns-then-b-a c =
     let t = pair_turn c.args.c c.args.i c.args.work.now c.args.last.now c.requires.0 c.requires.1 c.last_before-a.result c.last_before-a.new.last c.last_before-a.ensures.last c.last_before-a.ensures.noted c.if-b-a.true in
     record { met = t.met; kept = t.kept; counted = t.counted }
-
-pub overflow_cast-work : goal.overflow_cast-work
-overflow_cast-work c = search rules
 
 pub offset_bounds-work-own-2 : goal.offset_bounds-work-own-2
 offset_bounds-work-own-2 c =
@@ -106,22 +82,10 @@ bounds-work-own-2 c =
     let corner : get_or c.args.work.now (c.args.c + c.args.i) 0 < c.args.c = place_in c.args.c c.args.i c.args.work.now c.args.last.now c.requires.0 c.requires.1 in
     simp length-set (omega (arith, corner, c.requires.0.grouped.long))
 
-pub overflow_cast-c : goal.overflow_cast-c
-overflow_cast-c c = search rules
-
-pub shape_of-work-then-b-c : goal.shape_of-work-then-b-c
-shape_of-work-then-b-c c = search rules
-
-pub shape_of-last-then-b-c : goal.shape_of-last-then-b-c
-shape_of-last-then-b-c c = search rules
-
 pub returns-then-b-c : goal.returns-then-b-c
 returns-then-b-c c =
     let t = join_turn c.args.c c.args.i c.args.work.now c.args.last.now c.requires.0 c.requires.1 c.last_before-a.result c.last_before-a.new.last c.last_before-a.ensures.last c.last_before-a.ensures.noted c.if-b-a.false c.if-b-c.true in
     record { met = t.met; kept = t.kept; counted = t.counted }
-
-pub overflow_cast-work-2 : goal.overflow_cast-work-2
-overflow_cast-work-2 c = search rules
 
 pub offset_bounds-work-other-2 : goal.offset_bounds-work-other-2
 offset_bounds-work-other-2 c =
@@ -132,9 +96,6 @@ pub bounds-work-other-2 : goal.bounds-work-other-2
 bounds-work-other-2 c =
     let other : c.last_before-a.result < c.args.c = found_in c.args.c c.args.i c.args.work.now c.args.last.now c.requires.0 c.requires.1 c.last_before-a.result c.last_before-a.new.last c.last_before-a.ensures.last c.last_before-a.ensures.noted in
     simp length-set (omega (arith, other, c.requires.0.grouped.long))
-
-pub overflow_cast-work-3 : goal.overflow_cast-work-3
-overflow_cast-work-3 c = search rules
 
 pub overflow_cast-work-4 : goal.overflow_cast-work-4
 overflow_cast-work-4 c =
@@ -155,12 +116,6 @@ pub bounds-work-mates : goal.bounds-work-mates
 bounds-work-mates c =
     let crowd : let v = set c.args.work.now (2 * c.args.c + get_or c.args.work.now (c.args.c + c.args.i) 0) (get_or c.args.work.now (c.args.c + c.args.i) 0) in (get_or v (2 * c.args.c + c.last_before-a.result) 0 < c.args.c) × Turned c.args.c c.args.i c.args.work.now (set (set (set v (2 * c.args.c + get_or c.args.work.now (c.args.c + c.args.i) 0) c.args.c) (2 * c.args.c + c.last_before-a.result) c.args.c) (2 * c.args.c + get_or v (2 * c.args.c + c.last_before-a.result) 0) c.args.c) c.last_before-a.new.last 1 = crowd_turn c.args.c c.args.i c.args.work.now c.args.last.now c.requires.0 c.requires.1 c.last_before-a.result c.last_before-a.new.last c.last_before-a.ensures.last c.last_before-a.ensures.noted c.if-b-a.false c.if-b-c.false in
     simp length-set (omega (arith, crowd.0, c.requires.0.grouped.long))
-
-pub shape_of-work : goal.shape_of-work
-shape_of-work c = search rules
-
-pub shape_of-last : goal.shape_of-last
-shape_of-last c = search rules
 
 pub returns : goal.returns
 returns c =

@@ -15,12 +15,6 @@ overflow_add-singular c =
     let again : Meeting c.args.c c.args.work.now c.meet-singular.new.work c.meet-singular.new.last (c.loop-i.i + 1) (c.loop-i.singular + c.meet-singular.result) = meeting_turn _ _ _ _ _ _ c.loop-i.invariant.1 _ _ _ (record { met = c.meet-singular.ensures.met; kept = c.meet-singular.ensures.kept; counted = c.meet-singular.ensures.counted }) in
     omega (arith, c.requires.grouped.few, meeting_few _ _ _ _ _ _ again)
 
-pub overflow_add-i : goal.overflow_add-i
-overflow_add-i c = omega arith
-
-pub loop-i-smaller : goal.loop-i-smaller
-loop-i-smaller c = omega arith
-
 pub loop-i-preserved : goal.loop-i-preserved
 loop-i-preserved c =
     let again : Meeting c.args.c c.args.work.now c.meet-singular.new.work c.meet-singular.new.last (c.loop-i.i + 1) (c.loop-i.singular + c.meet-singular.result) = meeting_turn _ _ _ _ _ _ c.loop-i.invariant.1 _ _ _ (record { met = c.meet-singular.ensures.met; kept = c.meet-singular.ensures.kept; counted = c.meet-singular.ensures.counted }) in

@@ -1,9 +1,5 @@
 -- `bytes::in_comment` meets its contract: each arm is the case of the definition that its test picks.
-use borrow.Author.Rules.{rules}
 use Rattle.number.proofs.bytes.in_comment.Goals as goal
-
-pub ends_line-requires : goal.ends_line-requires
-ends_line-requires c = search rules
 
 pub returns-then-comment : goal.returns-then-comment
 returns-then-comment c = rw (c.ends_line.ensures, c.if-comment.true)

@@ -3,14 +3,8 @@ use Rattle.number.specs.Decimal.{width_one, width_more}
 use Rattle.number.proofs.Width.{width_64}
 use Rattle.number.proofs.decimal.digit_count.Goals as goal
 
-pub loop-rest-init : goal.loop-rest-init
-loop-rest-init c = omega arith
-
 pub overflow_add-count : goal.overflow_add-count
 overflow_add-count c = omega (arith, width_64 c.args.n (omega arith))
-
-pub loop-rest-smaller : goal.loop-rest-smaller
-loop-rest-smaller c = omega arith
 
 pub loop-rest-preserved : goal.loop-rest-preserved
 loop-rest-preserved c = omega (arith, width_more c.loop-rest.rest c.loop-rest-test.true)

@@ -1,30 +1,11 @@
 use mathlib.Core.Path.{◌≡◌, refl, sym, ◌∙◌}
 use native.Mathlib.Omega.{arith}
-use borrow.Author.Rules.{rules}
 use lib.ListN.{length-set}
 use Rattle.number.proofs.Putting.{put_none, put_digit}
 use Rattle.number.proofs.decimal.put_digits.Goals as goal
 
 pub loop-left-init : goal.loop-left-init
 loop-left-init c = (refl, c.requires, refl)
-
-pub overflow_sub-left : goal.overflow_sub-left
-overflow_sub-left c = search rules
-
-pub overflow_cast-text : goal.overflow_cast-text
-overflow_cast-text c = search rules
-
-pub overflow_add-text : goal.overflow_add-text
-overflow_add-text c = omega arith
-
-pub overflow_add-text-in-loop-left : goal.overflow_add-text-in-loop-left
-overflow_add-text-in-loop-left c = omega arith
-
-pub bounds-text-at : goal.bounds-text-at
-bounds-text-at c = omega arith
-
-pub loop-left-smaller : goal.loop-left-smaller
-loop-left-smaller c = omega arith
 
 pub loop-left-preserved : goal.loop-left-preserved
 loop-left-preserved c =

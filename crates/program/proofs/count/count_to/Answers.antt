@@ -1,17 +1,10 @@
 -- `count::count_to` meets its contract: a negative entry counts nothing, any other one more than itself, which fits 64 bits.
 use native.Mathlib.Omega.{arith}
-use borrow.Author.Rules.{rules}
 use lib.IntN.{ℤ, pos}
 use lib.ListN.{get_or}
 use Rattle.list.proofs.Signs.{cast_natural}
 use Rattle.program.proofs.Counting.{negative_none, natural_one_more, natural_small}
 use Rattle.program.proofs.count.count_to.Goals as goal
-
-pub offset_bounds-list-i : goal.offset_bounds-list-i
-offset_bounds-list-i c = search rules
-
-pub bounds-list-i : goal.bounds-list-i
-bounds-list-i c = search rules
 
 pub returns-then-x-lt0 : goal.returns-then-x-lt0
 returns-then-x-lt0 c =

@@ -6,15 +6,6 @@ use Rattle.program.proofs.count.vertex_count.Goals.{then-n-m, else-n-m}
 pub loop-i-init : goal.loop-i-init
 loop-i-init c = (omega arith, omega arith)
 
-pub count_to-m-requires : goal.count_to-m-requires
-count_to-m-requires c = omega arith
-
-pub overflow_add-i : goal.overflow_add-i
-overflow_add-i c = omega arith
-
-pub loop-i-smaller : goal.loop-i-smaller
-loop-i-smaller c = omega arith
-
 pub loop-i-preserved : goal.loop-i-preserved
 loop-i-preserved c =
     let l = c.args.list.now in

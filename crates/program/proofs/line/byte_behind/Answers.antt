@@ -1,10 +1,6 @@
 -- `line::byte_behind` meets its contract: a space where another number follows, a line feed behind the last.
-use borrow.Author.Rules.{rules}
 use Rattle.program.proofs.Lines.{behind_more, behind_last}
 use Rattle.program.proofs.line.byte_behind.Goals as goal
-
-pub overflow_add-i : goal.overflow_add-i
-overflow_add-i c = search rules
 
 pub returns-then-i-numbers : goal.returns-then-i-numbers
 returns-then-i-numbers c = behind_more c.args.numbers.now c.args.i c.if-i-numbers.true

@@ -10,15 +10,6 @@ use Rattle.program.proofs.line.put_line.Goals as goal
 pub loop-i-init : goal.loop-i-init
 loop-i-init c = (refl, omega arith, omega arith, omega arith, refl)
 
-pub put_number-at-requires : goal.put_number-at-requires
-put_number-at-requires c = omega arith
-
-pub overflow_add-i : goal.overflow_add-i
-overflow_add-i c = omega arith
-
-pub loop-i-smaller : goal.loop-i-smaller
-loop-i-smaller c = omega arith
-
 pub loop-i-preserved : goal.loop-i-preserved
 loop-i-preserved c =
     let xs = c.args.numbers.now in

@@ -2,23 +2,10 @@
 use mathlib.Core.Path.{◌≡◌, ap}
 use Prim.Native.Nat.{ℕ, ◌+◌, ◌≤◌}
 use native.Mathlib.Omega.{arith}
-use borrow.Author.Rules.{rules}
 use lib.ListN.{length}
 use Rattle.text.specs.Writing.{written}
 use Rattle.program.proofs.Lines.{list_accepted, list_room, list_behind, list_put}
 use Rattle.program.proofs.line.put_list.Goals as goal
-
-pub slice_bounds-write-count : goal.slice_bounds-write-count
-slice_bounds-write-count c = search rules
-
-pub slice_bounds-write-start : goal.slice_bounds-write-start
-slice_bounds-write-start c = search rules
-
-pub slice_bounds-write-end : goal.slice_bounds-write-end
-slice_bounds-write-end c = search rules
-
-pub write-written-requires : goal.write-written-requires
-write-written-requires c = search rules
 
 pub overflow_add-end : goal.overflow_add-end
 overflow_add-end c =
@@ -37,9 +24,6 @@ overflow_add-result c =
     let whole : c.write-written.result.length ≡ length (written c.args.list.now) = list_accepted c.args.list.now c.args.output.now c.args.at (omega arith) c.requires.1 c.write-written.result c.write-written.ensures.value in
     let fits : c.args.at + c.write-written.result.length + 1 ≤ length c.args.output.now = rw whole (list_room c.args.list.now c.args.output.now c.args.at (omega arith) c.requires.1) in
     let f = fits in omega arith
-
-pub shape_of-output : goal.shape_of-output
-shape_of-output c = search rules
 
 pub returns : goal.returns
 returns c =

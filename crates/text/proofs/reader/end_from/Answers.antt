@@ -1,14 +1,7 @@
 -- `text::reader::end_from` meets its contract: past what separates there is the end of the text, or something that should not be there.
 use mathlib.Core.Path.{sym, ◌∙◌}
 use Rattle.text.proofs.Items.{behind_end, behind_thing}
-use borrow.Author.Rules.{rules}
 use Rattle.text.proofs.reader.end_from.Goals as goal
-
-pub skip-place-requires : goal.skip-place-requires
-skip-place-requires c = search rules
-
-pub refused_read-requires : goal.refused_read-requires
-refused_read-requires c = search rules
 
 pub returns-then-place-text : goal.returns-then-place-text
 returns-then-place-text c =

@@ -1,7 +1,6 @@
 use mathlib.Core.Path.{refl, sym, ap, ◌∙◌}
 use Prim.Native.Nat.{◌-◌}
 use native.Mathlib.Omega.{arith}
-use borrow.Author.Rules.{rules}
 use native.Mathlib.Nat.{sub-zero}
 use mathlib.Core.List.{List, ◌++◌}
 use lib.IntN.{ℤ}
@@ -18,12 +17,6 @@ use Rattle.text.proofs.reader.fill.Goals as goal
 pub loop-k-init : goal.loop-k-init
 loop-k-init c = (refl, rw (sub-zero c.args.n))
 
-pub item_at-item-requires : goal.item_at-item-requires
-item_at-item-requires c = search rules
-
-pub enum_known-item : goal.enum_known-item
-enum_known-item c = search rules
-
 pub shape_of-list-in_default : goal.shape_of-list-in_default
 shape_of-list-in_default c = c.loop-k.invariant.0
 
@@ -32,18 +25,6 @@ returns-in_default c =
     let a = c.args in
     let none = values_other a.text.now c.loop-k.i (λ p v nx e. c.in_default.not-Entry p v nx (c.item_at-item.ensures ∙ e)) in
     sym (rw none (fill_none c.loop-k.list c.loop-k.k a.n)) ∙ c.loop-k.invariant.1
-
-pub offset_bounds-list-k : goal.offset_bounds-list-k
-offset_bounds-list-k c = omega arith
-
-pub bounds-list-k : goal.bounds-list-k
-bounds-list-k c = omega arith
-
-pub overflow_add-k : goal.overflow_add-k
-overflow_add-k c = search rules
-
-pub loop-k-smaller : goal.loop-k-smaller
-loop-k-smaller c = omega arith
 
 pub loop-k-preserved : goal.loop-k-preserved
 loop-k-preserved c =

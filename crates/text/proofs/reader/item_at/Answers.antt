@@ -10,44 +10,22 @@ use Rattle.text.specs.Tokens.{tokens_at}
 use Rattle.text.specs.Steps.{item_of, item_of_number}
 use Rattle.text.specs.declared.reader.Item.TheVariants.{Entry}
 use Rattle.text.proofs.Items.{item_refused, item_end, item_opens, item_closes, item_number}
-use borrow.Author.Rules.{rules}
 use Rattle.text.proofs.reader.item_at.Goals as goal
-
-pub skip-place-requires : goal.skip-place-requires
-skip-place-requires c = search rules
 
 pub returns-then-text-place : goal.returns-then-text-place
 returns-then-text-place c =
     let a = c.args in
     sym (item_end a.text.now a.at c.skip-place.result c.skip-place.ensures c.if-text-place.true)
 
-pub bounds-text-place : goal.bounds-text-place
-bounds-text-place c = search rules
-
 pub returns-then-b-eq-OPEN : goal.returns-then-b-eq-OPEN
 returns-then-b-eq-OPEN c =
     let a = c.args in
     sym (item_opens a.text.now a.at c.skip-place.result c.skip-place.ensures (omega arith) c.if-b-eq-OPEN.true)
 
-pub overflow_add-result : goal.overflow_add-result
-overflow_add-result c = search rules
-
 pub returns-then-b-eq-CLOSE : goal.returns-then-b-eq-CLOSE
 returns-then-b-eq-CLOSE c =
     let a = c.args in
     rw (add-one c.skip-place.result) (sym (item_closes a.text.now a.at c.skip-place.result c.skip-place.ensures (omega arith) c.if-b-eq-CLOSE.true))
-
-pub read_number-number-requires : goal.read_number-number-requires
-read_number-number-requires c = search rules
-
-pub enum_known-number : goal.enum_known-number
-enum_known-number c = search rules
-
-pub enum_told-1 : goal.enum_told-1
-enum_told-1 c = search rules
-
-pub refusal_of-requires : goal.refusal_of-requires
-refusal_of-requires c = search rules
 
 pub returns-in_default : goal.returns-in_default
 returns-in_default c =

@@ -1,10 +1,6 @@
 -- `text::reader::opens_at` meets its contract: the test picks the case.
 use borrow.Author.Tests.{lt-ltb, le-ltb}
-use borrow.Author.Rules.{rules}
 use Rattle.text.proofs.reader.opens_at.Goals as goal
-
-pub bounds-text-start : goal.bounds-text-start
-bounds-text-start c = search rules
 
 pub returns-then-start-text : goal.returns-then-start-text
 returns-then-start-text c = rw (lt-ltb _ _ c.if-start-text.true)

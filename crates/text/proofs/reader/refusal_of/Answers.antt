@@ -4,17 +4,10 @@ use Rattle.number.specs.Numbers.{code_of, place_of}
 use Rattle.number.specs.declared.Number.{Number}
 use Rattle.text.specs.declared.reader.Item.{Item}
 use Rattle.text.specs.declared.reader.Item.TheVariants.{Fault}
-use borrow.Author.Rules.{rules}
 use Rattle.text.proofs.reader.refusal_of.Goals as goal
 
 abbrev faultOf : Number → Item
 faultOf n = Fault (code_of n) (place_of n)
-
-pub enum_known-number : goal.enum_known-number
-enum_known-number c = search rules
-
-pub enum_known-number-in-Refused-1 : goal.enum_known-number-in-Refused-1
-enum_known-number-in-Refused-1 c = search rules
 
 pub returns-in-Value : goal.returns-in-Value
 returns-in-Value c = sym (ap faultOf c.in-Value.is)

@@ -1,31 +1,15 @@
 use mathlib.Core.Path.{refl, sym, ◌∙◌}
 use native.Mathlib.Omega.{arith}
-use borrow.Author.Rules.{rules}
 use Rattle.text.proofs.Lexing.{skip_more, skip_stops, skip_ends}
 use Rattle.text.proofs.reader.skip.Goals as goal
 
 pub loop-i-init : goal.loop-i-init
 loop-i-init c = refl
 
-pub bounds-text-i : goal.bounds-text-i
-bounds-text-i c = search rules
-
-pub in_gap-requires : goal.in_gap-requires
-in_gap-requires c = search rules
-
 pub returns-then-not-in_gap : goal.returns-then-not-in_gap
 returns-then-not-in_gap c =
     sym (skip_stops c.args.text.now c.loop-i.i c.loop-i.comment (omega arith)
     (sym c.in_gap.ensures ∙ c.if-not-in_gap.true)) ∙ c.loop-i.invariant
-
-pub in_comment-comment-requires : goal.in_comment-comment-requires
-in_comment-comment-requires c = search rules
-
-pub overflow_add-i : goal.overflow_add-i
-overflow_add-i c = search rules
-
-pub loop-i-smaller : goal.loop-i-smaller
-loop-i-smaller c = omega arith
 
 pub loop-i-preserved : goal.loop-i-preserved
 loop-i-preserved c =

@@ -7,20 +7,7 @@ use lib.IntN.{pos}
 use lib.ListN.{length, get_or}
 use Rattle.text.specs.Writing.{entry_text}
 use Rattle.text.proofs.Entries.{entry_long}
-use borrow.Author.Rules.{rules}
 use Rattle.text.proofs.writer.entry_length.Goals as goal
-
-pub magnitude_at-requires : goal.magnitude_at-requires
-magnitude_at-requires c = search rules
-
-pub digit_count-count-requires : goal.digit_count-count-requires
-digit_count-count-requires c = search rules
-
-pub negative_at-requires : goal.negative_at-requires
-negative_at-requires c = search rules
-
-pub overflow_add-result : goal.overflow_add-result
-overflow_add-result c = search rules
 
 pub returns-then-negative_at : goal.returns-then-negative_at
 returns-then-negative_at c =

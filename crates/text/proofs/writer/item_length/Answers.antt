@@ -7,17 +7,7 @@ use lib.ListN.{length, get_or, length-append}
 use Rattle.number.specs.Bytes.{space, comma}
 use Rattle.text.specs.Writing.{entry_text}
 use Rattle.text.proofs.Entries.{item_joined, item_last}
-use borrow.Author.Rules.{rules}
 use Rattle.text.proofs.writer.item_length.Goals as goal
-
-pub entry_length-entry-requires : goal.entry_length-entry-requires
-entry_length-entry-requires c = search rules
-
-pub overflow_add-i : goal.overflow_add-i
-overflow_add-i c = search rules
-
-pub overflow_add-result : goal.overflow_add-result
-overflow_add-result c = search rules
 
 pub returns-then-i-list : goal.returns-then-i-list
 returns-then-i-list c =

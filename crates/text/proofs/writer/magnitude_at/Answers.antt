@@ -7,14 +7,7 @@ use lib.ListN.{get_or}
 use mir.Syntax.{w32}
 use mir.Val.{SFits}
 use Rattle.text.proofs.Signs.{entry_wide, entry_read, entry_minus_fits, entry_minus, below_zero, not_below_zero}
-use borrow.Author.Rules.{rules}
 use Rattle.text.proofs.writer.magnitude_at.Goals as goal
-
-pub offset_bounds-list-i : goal.offset_bounds-list-i
-offset_bounds-list-i c = search rules
-
-pub bounds-list-i : goal.bounds-list-i
-bounds-list-i c = search rules
 
 pub overflow_cast-x : goal.overflow_cast-x
 overflow_cast-x c =

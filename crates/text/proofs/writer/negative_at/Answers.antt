@@ -4,14 +4,7 @@ use lib.ListN.{get_or}
 use mir.Syntax.{w32}
 use mir.ValLaws.{to_z-of_z}
 use Rattle.text.proofs.Signs.{negative_flag}
-use borrow.Author.Rules.{rules}
 use Rattle.text.proofs.writer.negative_at.Goals as goal
-
-pub offset_bounds-list-i : goal.offset_bounds-list-i
-offset_bounds-list-i c = search rules
-
-pub bounds-list-i : goal.bounds-list-i
-bounds-list-i c = search rules
 
 pub returns : goal.returns
 returns c =

@@ -12,17 +12,7 @@ use Rattle.text.specs.Writing.{entry_text}
 use Rattle.number.specs.Steps.{put}
 use Rattle.number.proofs.Putting.{put_byte, put_behind, digits_length}
 use Rattle.text.proofs.Entries.{entry_text_lem, entry_long}
-use borrow.Author.Rules.{rules}
 use Rattle.text.proofs.writer.put_entry.Goals as goal
-
-pub magnitude_at-m-requires : goal.magnitude_at-m-requires
-magnitude_at-m-requires c = search rules
-
-pub digit_count-count-requires : goal.digit_count-count-requires
-digit_count-count-requires c = search rules
-
-pub negative_at-requires : goal.negative_at-requires
-negative_at-requires c = search rules
 
 pub bounds-text-at : goal.bounds-text-at
 bounds-text-at c =
@@ -33,9 +23,6 @@ bounds-text-at c =
     let e = rw c.if-negative_at.true at long in
     omega arith
 
-pub overflow_add-digits : goal.overflow_add-digits
-overflow_add-digits c = search rules
-
 pub put_digits-requires : goal.put_digits-requires
 put_digits-requires c =
     let entry : ℤ = get_or c.args.list.now c.args.i (pos 0) in
@@ -44,9 +31,6 @@ put_digits-requires c =
     c.negative_at.ensures c.magnitude_at-m.ensures c.digit_count-count.ensures.0 in
     let e = rw c.if-negative_at.true at long in
     simp length-set (omega arith)
-
-pub overflow_add-result : goal.overflow_add-result
-overflow_add-result c = search rules
 
 pub shape_of-text-then-negative_at : goal.shape_of-text-then-negative_at
 shape_of-text-then-negative_at c = c.put_digits.auto.text ∙ simp length-set
@@ -79,12 +63,6 @@ put_digits-requires-2 c =
     c.negative_at.ensures c.magnitude_at-m.ensures c.digit_count-count.ensures.0 in
     let e = rw c.if-negative_at.false at long in
     omega arith
-
-pub overflow_add-result-2 : goal.overflow_add-result-2
-overflow_add-result-2 c = search rules
-
-pub shape_of-text : goal.shape_of-text
-shape_of-text c = search rules
 
 pub returns : goal.returns
 returns c =

@@ -8,7 +8,6 @@ use lib.ListN.{length, drop, get_or, length-append, length-set}
 use Rattle.number.specs.Bytes.{space, comma}
 use Rattle.text.specs.Writing.{entry_text, joint, item_text}
 use Rattle.text.proofs.Entries.{item_at_place, item_joined, item_last, item_put}
-use borrow.Author.Rules.{rules}
 use Rattle.text.proofs.writer.put_item.Goals as goal
 
 pub put_entry-next-requires : goal.put_entry-next-requires
@@ -17,9 +16,6 @@ put_entry-next-requires c =
     let e = ap length (item_at_place a.list.now a.i c.requires.0) in
     let f = length-append (entry_text (get_or a.list.now a.i (pos 0))) (joint (drop (suc a.i) a.list.now)) in
     omega arith
-
-pub overflow_add-i : goal.overflow_add-i
-overflow_add-i c = search rules
 
 pub bounds-text-next : goal.bounds-text-next
 bounds-text-next c =
@@ -59,9 +55,6 @@ overflow_add-result c =
     let r = room in
     omega arith
 
-pub shape_of-text-then-i-list : goal.shape_of-text-then-i-list
-shape_of-text-then-i-list c = search rules
-
 pub returns-then-i-list : goal.returns-then-i-list
 returns-then-i-list c =
     let room : c.put_entry-next.result + 2 ≡ c.args.at + length (item_text (drop c.args.i c.args.list.now)) = (let a = c.args in
@@ -74,9 +67,6 @@ returns-then-i-list c =
       text_after = item_put a.list.now a.i c.requires.0 a.at c.put_entry-next.result a.text.now c.put_entry-next.new.text
           c.if-i-list.true c.requires.1 c.put_entry-next.ensures.value c.put_entry-next.ensures.text_after;
     }
-
-pub shape_of-text : goal.shape_of-text
-shape_of-text c = search rules
 
 pub returns : goal.returns
 returns c =

@@ -8,9 +8,6 @@ use Rattle.text.specs.Writing.{item_text, entries_text}
 use Rattle.text.proofs.Entries.{entries_at_place, put_turn, put_whole}
 use Rattle.text.proofs.writer.put_text.Goals as goal
 
-pub bounds-text-0 : goal.bounds-text-0
-bounds-text-0 c = omega arith
-
 pub loop-i-init : goal.loop-i-init
 loop-i-init c = (refl, refl, simp length-set (omega arith), refl)
 
@@ -20,12 +17,6 @@ put_item-at-requires c =
     let e = ap length (entries_at_place l c.loop-i.i c.loop-i-test.true) in
     let f = length-append (item_text (drop c.loop-i.i l)) (entries_text (drop (c.loop-i.i + 1) l)) in
     omega arith
-
-pub overflow_add-i : goal.overflow_add-i
-overflow_add-i c = omega arith
-
-pub loop-i-smaller : goal.loop-i-smaller
-loop-i-smaller c = omega arith
 
 pub loop-i-preserved : goal.loop-i-preserved
 loop-i-preserved c =

@@ -2,7 +2,6 @@ use mathlib.Core.Path.{refl, ap}
 use mathlib.Core.List.{List}
 use Prim.Native.Nat.{◌+◌}
 use native.Mathlib.Omega.{arith}
-use borrow.Author.Rules.{rules}
 use lib.IntN.{ℤ}
 use lib.ListN.{length, drop, length-append, drop_of_length-le}
 use Rattle.text.specs.Writing.{item_text, entries_text}
@@ -11,18 +10,6 @@ use Rattle.text.proofs.writer.text_length.Goals as goal
 
 pub loop-i-init : goal.loop-i-init
 loop-i-init c = (omega arith, refl, omega arith)
-
-pub item_length-total-requires : goal.item_length-total-requires
-item_length-total-requires c = search rules
-
-pub overflow_add-total : goal.overflow_add-total
-overflow_add-total c = omega arith
-
-pub overflow_add-i : goal.overflow_add-i
-overflow_add-i c = omega arith
-
-pub loop-i-smaller : goal.loop-i-smaller
-loop-i-smaller c = omega arith
 
 pub loop-i-preserved : goal.loop-i-preserved
 loop-i-preserved c =
