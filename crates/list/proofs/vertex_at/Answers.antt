@@ -1,5 +1,6 @@
 -- `vertex_at` meets its contract: a negative entry counts as 0, any other is its own magnitude, as `num` has it.
 use mathlib.Core.Path.{sym, ap}
+use native.Mathlib.Omega.{arith}
 use lib.IntN.{ℤ, pos}
 use lib.ListN.{get_or, get_or-eq_default}
 use Rattle.list.specs.Faces.{num}
@@ -7,7 +8,7 @@ use Rattle.list.proofs.Signs.{num_negative, num_natural, cast_natural}
 use Rattle.list.proofs.vertex_at.Goals as goal
 
 pub returns-then-l-i : goal.returns-then-l-i
-returns-then-l-i c = sym (ap num (get_or-eq_default c.args.l.now (pos 0) c.if-l-i.true))
+returns-then-l-i c = sym (ap num (get_or-eq_default c.args.l.now (pos 0) (omega arith)))
 
 pub returns-then-x-lt0 : goal.returns-then-x-lt0
 returns-then-x-lt0 c =

@@ -7,10 +7,10 @@ pub overflow_add-count : goal.overflow_add-count
 overflow_add-count c = omega (arith, width_64 c.args.n (omega arith))
 
 pub loop-rest-preserved : goal.loop-rest-preserved
-loop-rest-preserved c = omega (arith, width_more c.loop-rest.rest c.loop-rest-test.true)
+loop-rest-preserved c = omega (arith, width_more c.loop-rest.rest (omega arith))
 
 pub returns : goal.returns
 returns c =
-    let w = width_one c.loop-rest.rest c.loop-rest-test.false in
+    let w = width_one c.loop-rest.rest (omega arith) in
     let b = width_64 c.args.n (omega arith) in
     omega arith
