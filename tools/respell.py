@@ -134,11 +134,11 @@ def main(argv):
     for w, definition in (("labels_at", "labelsAt"), ("on_edge", "onEdge"), ("run_length", "runLength")):
         if definition not in words:
             FIXED.pop(w, None)
-    todo = sorted(w for w in words if (odd(w) or w in FIXED) and w not in foreign)
-    new = {w: turned(w, set() if w in inner else names) for w in todo}
+    older = sorted(w for w in words if (odd(w) or w in FIXED) and w not in foreign)
+    new = {w: turned(w, set() if w in inner else names) for w in older}
     # a lemma that would have its definition's name
-    for w in todo:
-        if "-" in w and w not in FIXED and w in declared and any(v != w and v in specs_of and turned(v, names) == new[w] for v in todo + [new[w]]):
+    for w in older:
+        if "-" in w and w not in FIXED and w in declared and any(v != w and v in specs_of and turned(v, names) == new[w] for v in older + [new[w]]):
             new[w] += "_lem"
     new = {w: n for w, n in new.items() if w != n}
     # names that fall together

@@ -1,5 +1,5 @@
 // The C interface: each function hands its arguments on and writes the answer's numbers, in document 01's order, to the caller.
-// It stands on the crates whose functions it exports; nothing in this repository stands on it.
+// It stands on the crates whose functions it hands on; `brimclif_c`, which exports it to C, stands on it.
 #![tactic(auto)]
 
 ghost use Rattle.std.specs.Prelude.{◌≡◌, length};
@@ -13,8 +13,7 @@ ghost use Rattle.brimclif.specs.Numbers.{check_numbers, edge_numbers, classes_nu
 
 // Whether the list is valid with n vertices: code, place, faces, corners.
 // Refused by 1 to 5.
-#[unsafe(no_mangle)]
-pub extern "C" fn brimclif_check(list: &[i32], n: u64, answer: &mut [u64; 4])
+pub fn brimclif_check(list: &[i32], n: u64, answer: &mut [u64; 4])
     ensures { answer.new ≡ check_numbers (check_of list.now n) }
 {
     let r = list::check(list, n as usize);
@@ -28,8 +27,7 @@ pub extern "C" fn brimclif_check(list: &[i32], n: u64, answer: &mut [u64; 4])
 
 // How many faces lie on the edge between a and b: code, place, faces.
 // Refused by 1 to 5 and 10.
-#[unsafe(no_mangle)]
-pub extern "C" fn brimclif_edge(list: &[i32], n: u64, a: i32, b: i32, answer: &mut [u64; 3])
+pub fn brimclif_edge(list: &[i32], n: u64, a: i32, b: i32, answer: &mut [u64; 3])
     ensures { answer.new ≡ edge_numbers (edge_of list.now n a b) }
 {
     let r = edges::faces_on(list, n as usize, a, b);
@@ -38,8 +36,7 @@ pub extern "C" fn brimclif_edge(list: &[i32], n: u64, a: i32, b: i32, answer: &m
 
 // The class of each vertex, to the start of the class buffer: code, place.
 // Refused by 1 to 5, 8 and 9; a refusal writes to no buffer.
-#[unsafe(no_mangle)]
-pub extern "C" fn brimclif_classes(
+pub fn brimclif_classes(
     list: &[i32],
     n: u64,
     classes: &mut [u8],
@@ -56,8 +53,7 @@ pub extern "C" fn brimclif_classes(
 
 // The cut, to the start of the new list and of the map: code, place, faces, corners, new vertices, singular edges and vertices.
 // Refused by 1 to 7 and 9; a refusal writes to no buffer.
-#[unsafe(no_mangle)]
-pub extern "C" fn brimclif_cut(
+pub fn brimclif_cut(
     list: &[i32],
     n: u64,
     new_list: &mut [i32],
@@ -76,8 +72,7 @@ pub extern "C" fn brimclif_cut(
 
 // Reads the text into the start of the list: code, place, entries read.
 // Refused by 11 to 13; a refusal writes no entry.
-#[unsafe(no_mangle)]
-pub extern "C" fn brimclif_read(text: &[u8], list: &mut [i32], answer: &mut [u64; 3])
+pub fn brimclif_read(text: &[u8], list: &mut [i32], answer: &mut [u64; 3])
     ensures answer_after { answer.new ≡ read_numbers (read_of text.now (length list.old)) }
     ensures list_after { list.new ≡ read_into text.now list.old }
 {
@@ -87,8 +82,7 @@ pub extern "C" fn brimclif_read(text: &[u8], list: &mut [i32], answer: &mut [u64
 
 // Writes the list's text to the start of the buffer: code, place, the text's length.
 // Refused by 1 and 15; a refusal writes no byte.
-#[unsafe(no_mangle)]
-pub extern "C" fn brimclif_write(list: &[i32], text: &mut [u8], answer: &mut [u64; 3])
+pub fn brimclif_write(list: &[i32], text: &mut [u8], answer: &mut [u64; 3])
     ensures answer_after { answer.new ≡ write_numbers (write_of list.now (length text.old)) }
     ensures text_after { text.new ≡ write_into list.now text.old }
 {
@@ -98,8 +92,7 @@ pub extern "C" fn brimclif_write(list: &[i32], text: &mut [u8], answer: &mut [u6
 
 // Where face k of the list starts and ends, without its -1; 0 and 0 where there is no face k.
 // It refuses nothing.
-#[unsafe(no_mangle)]
-pub extern "C" fn brimclif_face(list: &[i32], k: u64, span: &mut [u64; 2])
+pub fn brimclif_face(list: &[i32], k: u64, span: &mut [u64; 2])
     ensures { span.new ≡ span_numbers (span_of list.now k) }
 {
     let r = list::face_span(list, k as usize);
