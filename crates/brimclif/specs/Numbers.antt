@@ -8,12 +8,12 @@
 --   write_numbers r     code, place, the text's length
 --   span_numbers r      where a face starts and ends
 use Rattle.std.specs.Prelude.{ℕ, List, [], ◌∷◌}
-use Rattle.list.specs.declared.CheckAnswer.{CheckAnswer}
+use Rattle.list.specs.Check.{CheckAnswer}
 use Rattle.list.specs.declared.Span.{Span}
-use Rattle.edges.specs.declared.EdgeAnswer.{EdgeAnswer}
-use Rattle.cut.specs.declared.ClassesAnswer.{ClassesAnswer}
-use Rattle.text.specs.declared.ReadAnswer.{ReadAnswer}
-use Rattle.text.specs.declared.WriteAnswer.{WriteAnswer}
+use Rattle.edges.specs.Table.{EdgeAnswer}
+use Rattle.cut.specs.Cut.{ClassesAnswer}
+use Rattle.text.specs.Reading.{ReadAnswer}
+use Rattle.text.specs.Writing.{WriteAnswer}
 
 abbrev pub check_numbers : CheckAnswer → List ℕ
 check_numbers r = r.code ∷ r.place ∷ r.faces ∷ r.corners ∷ []

@@ -2,7 +2,7 @@
 // It stands on the crates whose functions it hands on; `brimclif_c`, which exports it to C, stands on it.
 #![tactic(auto)]
 
-ghost use Rattle.std.specs.Prelude.{◌≡◌, length};
+ghost use Rattle.std.specs.Prelude.{◌≡◌, ◌-◌, ◌≤◌, ◌∷◌, length, replicate};
 ghost use Rattle.list.specs.Check.{check_of};
 ghost use Rattle.list.specs.Show.{span_of};
 ghost use Rattle.text.specs.Reading.{read_of, read_into};
@@ -11,18 +11,29 @@ ghost use Rattle.edges.specs.Table.{edge_of};
 ghost use Rattle.cut.specs.Cut.{cut_numbers, cut_of, cut_list, cut_map, cut_work, classes_answer, classes_bytes, classes_work};
 ghost use Rattle.brimclif.specs.Numbers.{check_numbers, edge_numbers, classes_numbers, read_numbers, write_numbers, span_numbers};
 
+use list::Refusal;
+
+// The numbers of a refusal: its code and its place, and all else 0.
+// kept: `as` from here on, since a usize and a u64 have no From, as C's numbers are 64 bits wide whatever a usize is.
+fn refused<R: Refusal + Copy, const N: usize>(refusal: R) -> [u64; N]
+    requires { 2 ≤ N }
+    ensures { result ≡ R.code_of refusal ∷ R.place_of refusal ∷ replicate (N - 2) 0 }
+{
+    let mut numbers = [0; N];
+    numbers[0] = u64::from(refusal.code());
+    numbers[1] = refusal.place() as u64;
+    numbers
+}
+
 // Whether the list is valid with n vertices: code, place, faces, corners.
 // Refused by 1 to 5.
 pub fn brimclif_check(list: &[i32], n: u64, answer: &mut [u64; 4])
     ensures { answer.new ≡ check_numbers (check_of list.now n) }
 {
-    let r = list::check(list, n as usize);
-    *answer = [
-        r.code as u64,
-        r.place as u64,
-        r.faces as u64,
-        r.corners as u64,
-    ];
+    *answer = match list::check(list, n as usize) {
+        Ok(counts) => [0, 0, counts.faces as u64, counts.corners as u64],
+        Err(fault) => refused(fault),
+    };
 }
 
 // How many faces lie on the edge between a and b: code, place, faces.
@@ -30,8 +41,10 @@ pub fn brimclif_check(list: &[i32], n: u64, answer: &mut [u64; 4])
 pub fn brimclif_edge(list: &[i32], n: u64, a: i32, b: i32, answer: &mut [u64; 3])
     ensures { answer.new ≡ edge_numbers (edge_of list.now n a b) }
 {
-    let r = edges::faces_on(list, n as usize, a, b);
-    *answer = [r.code as u64, r.place as u64, r.faces as u64];
+    *answer = match edges::faces_on(list, n as usize, a, b) {
+        Ok(faces) => [0, 0, faces as u64],
+        Err(refusal) => refused(refusal),
+    };
 }
 
 // The class of each vertex, to the start of the class buffer: code, place.
@@ -47,8 +60,10 @@ pub fn brimclif_classes(
     ensures classes_after { classes.new ≡ classes_bytes list.now n classes.old work.old }
     ensures work_after { work.new ≡ classes_work list.now n classes.old work.old }
 {
-    let r = cut::classes(list, n as usize, classes, work);
-    *answer = [r.code as u64, r.place as u64];
+    *answer = match cut::classes(list, n as usize, classes, work) {
+        Ok(()) => [0, 0],
+        Err(refusal) => refused(refusal),
+    };
 }
 
 // The cut, to the start of the new list and of the map: code, place, faces, corners, new vertices, singular edges and vertices.
@@ -66,8 +81,7 @@ pub fn brimclif_cut(
     ensures map_after { map.new ≡ cut_map list.now n new_list.old map.old work.old }
     ensures work_after { work.new ≡ cut_work list.now n new_list.old map.old work.old }
 {
-    let r = cut::cut(list, n as usize, new_list, map, work);
-    *answer = r.numbers();
+    *answer = cut::numbers(cut::cut(list, n as usize, new_list, map, work));
 }
 
 // Reads the text into the start of the list: code, place, entries read.
@@ -76,8 +90,10 @@ pub fn brimclif_read(text: &[u8], list: &mut [i32], answer: &mut [u64; 3])
     ensures answer_after { answer.new ≡ read_numbers (read_of text.now (length list.old)) }
     ensures list_after { list.new ≡ read_into text.now list.old }
 {
-    let r = text::read(text, list);
-    *answer = [r.code as u64, r.place as u64, r.entries as u64];
+    *answer = match text::read(text, list) {
+        Ok(entries) => [0, 0, entries as u64],
+        Err(fault) => refused(fault),
+    };
 }
 
 // Writes the list's text to the start of the buffer: code, place, the text's length.
@@ -86,8 +102,10 @@ pub fn brimclif_write(list: &[i32], text: &mut [u8], answer: &mut [u64; 3])
     ensures answer_after { answer.new ≡ write_numbers (write_of list.now (length text.old)) }
     ensures text_after { text.new ≡ write_into list.now text.old }
 {
-    let r = text::write(list, text);
-    *answer = [r.code as u64, r.place as u64, r.length as u64];
+    *answer = match text::write(list, text) {
+        Ok(length) => [0, 0, length as u64],
+        Err(fault) => refused(fault),
+    };
 }
 
 // Where face k of the list starts and ends, without its -1; 0 and 0 where there is no face k.

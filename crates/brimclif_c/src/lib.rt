@@ -1,5 +1,6 @@
 // What C sees of the interface: each export hands its arguments on to the function of its name in `brimclif`, and has its clauses.
 // It stands on `brimclif`; nothing in this repository stands on it.
+// kept: each function a second time beside `brimclif`, since a crate is a library or a static library, and C needs the exports.
 #![tactic(auto)]
 
 ghost use Rattle.std.specs.Prelude.{◌≡◌, length};

@@ -3,181 +3,134 @@
 use Prim.Native.Nat.{ℕ, ◌*◌, ◌≤◌, ◌<◌}
 use mathlib.Core.Path.{◌≡◌, sym, ◌∙◌, ap}
 use mathlib.Core.List.{List, ◌++◌}
-use native.Mathlib.Omega.{arith}
 use borrow.Author.Tests.{ne_eqb, lt-ltb, le-ltb}
 use lib.IntN.{ℤ}
 use lib.ListN.{length, drop, replicate, length-replicate}
+use Rattle.std.specs.Prelude.{Result, Ok, Err}
+use Rattle.std.specs.Result.{IsErrAnd}
 use Rattle.list.specs.Faces.{corners}
-use Rattle.list.specs.Check.{check_of, Valid}
-use Rattle.list.specs.declared.CheckAnswer.{CheckAnswer}
-use Rattle.list.proofs.Given.{accepted_exactly_when, accepted_counts}
+use Rattle.list.specs.Check.{CheckAnswer, check_of, refused, accepted}
+use Rattle.list.proofs.Given.{accepted_counts}
 use Rattle.groups.specs.Groups.{group_labels}
 use Rattle.renumber.specs.Renumber.{new_list_of}
 use Rattle.fans.specs.Classes.{classes_of}
 use Rattle.list.specs.Written.{over}
-use Rattle.cut.specs.Cut.{classes_refused, classes_answer, classes_bytes, classes_work, cut_refused, cut_of, cut_list, cut_map, cut_work}
+use Rattle.list.specs.Told.{code_of, place_of}
+use Rattle.list.specs.declared.Fault.{Fault}
+use Rattle.list.proofs.Told.{fault_coded}
+use Rattle.cut.specs.Cut.{CutAnswer, classes_answer, classes_bytes, classes_work, cut_of, cut_list, cut_map, cut_work}
+use Rattle.cut.specs.Told.{cut_code, cut_told, classes_code, classes_told}
 use Rattle.cut.specs.Made.{CutMade}
-use Rattle.cut.specs.declared.CutAnswer.{CutAnswer}
-use Rattle.cut.specs.declared.ClassesAnswer.{ClassesAnswer}
+use Rattle.cut.specs.declared.answer.Cut.{Cut}
+use Rattle.cut.specs.declared.answer.CutRefusal.{CutRefusal}
+use Rattle.cut.specs.declared.answer.CutRefusal.TheVariants as Cut·
+use Rattle.cut.specs.declared.answer.ClassesRefusal.{ClassesRefusal}
+use Rattle.cut.specs.declared.answer.ClassesRefusal.TheVariants as Classes·
+use Rattle.cut.proofs.Told.{cut_coded, classes_coded}
 
--- a list that the check a accepts
-module _ (l : List ℤ) (n : ℕ) (a : CheckAnswer) (q : a ≡ check_of l n) (ok : a.code ≡ 0) where
-  checked : (check_of l n).code ≡ 0
-  checked = ap (λ (x : CheckAnswer). x.code) (sym q) ∙ ok
-
-  pub check_valid : Valid l n
-  check_valid = (accepted_exactly_when l n).0 checked
-
-  pub check_corners : a.corners ≡ length (corners l)
-  check_corners = ap (λ (x : CheckAnswer). x.corners) (q ∙ accepted_counts l n checked)
+-- the counts of a list that the check accepts
+corners_are : (l : List ℤ) (n f c : ℕ) → accepted f c ≡ check_of l n → c ≡ length (corners l)
+corners_are l n f c q = ap (λ (a : CheckAnswer). a.corners) (q ∙ accepted_counts l n (ap (λ (a : CheckAnswer). a.code) (sym q)))
 
 -- xs before the rest of what was lent
 over_is : {A : Type 0} (xs whole old : List A) (m : ℕ) → xs ≡ whole → length xs ≡ m → xs ++ drop m old ≡ over whole old
 over_is xs whole old m e s = rw (← s, e)
 
 -- what the class call answers and leaves
-module _ (l : List ℤ) (n : ℕ) (bytes work : List ℕ) where
-  abbrev pub ClassesPost : ClassesAnswer → List ℕ → List ℕ → Type 0
-  ClassesPost r bytes' work' =
-      (r ≡ classes_answer l n (length bytes) (length work)) × ((bytes' ≡ classes_bytes l n bytes work) × (work' ≡ classes_work l n bytes work))
+module _ (l : List ℤ) (n : ℕ) (lent work : List ℕ) where
+  pub record ClassesPost (r : Result (Unit {0}) ClassesRefusal) (bytes' work' : List ℕ) : Type 0 where
+    pub answer : classes_told r ≡ classes_answer l n (length lent) (length work)
+    pub bytes : bytes' ≡ classes_bytes l n lent work
+    pub cleared : work' ≡ classes_work l n lent work
 
-  classes_kept : (code place : ℕ) → (code ≡ 0 → ⊥) → classes_refused code place ≡ classes_answer l n (length bytes) (length work) → ClassesPost (classes_refused code place) bytes work
+  classes_kept : (r : ClassesRefusal) → classes_told (Err r) ≡ classes_answer l n (length lent) (length work) → ClassesPost (Err r) lent work
   unfolding classes_bytes classes_work
-  classes_kept code place z e = (e, (rw (← e, ne_eqb code 0 z), rw (← e, ne_eqb code 0 z)))
+  classes_kept r e =
+      record { answer = e; bytes = rw (← e, ne_eqb (classes_code r) 0 (classes_coded r)); cleared = rw (← e, ne_eqb (classes_code r) 0 (classes_coded r)) }
 
-  module _ (a : CheckAnswer) (q : a ≡ check_of l n) where
-    answer_check : (a.code ≡ 0 → ⊥) → classes_refused a.code a.place ≡ classes_answer l n (length bytes) (length work)
+  pub classes_invalid : (r : Result (Unit {0}) ClassesRefusal) (f : Fault) → IsErrAnd r (λ x. x ≡ Classes·.Invalid f) → refused (code_of f) (place_of f) ≡ check_of l n → ClassesPost r lent work
+  unfolding classes_answer
+  classes_invalid (Ok made) f e q = absurd e
+  classes_invalid (Err x) f e q = rw e (classes_kept (Classes·.Invalid f) (rw (← q, ne_eqb (code_of f) 0 (fault_coded f))))
+
+  module _ (f c : ℕ) (q : accepted f c ≡ check_of l n) where
+    pub classes_room : length lent < n → ClassesPost (Err (Classes·.ClassesShort n)) lent work
     unfolding classes_answer
-    answer_check z = rw (← q, ne_eqb a.code 0 z)
+    classes_room h = classes_kept (Classes·.ClassesShort n) (rw (← q, lt-ltb (length lent) n h))
 
-    pub classes_check : (a.code ≡ 0 → ⊥) → ClassesPost (classes_refused a.code a.place) bytes work
-    classes_check z = classes_kept a.code a.place z (answer_check z)
-
-    module _ (ok : a.code ≡ 0) where
-      abbrev words : a.corners ≡ length (corners l)
-      words = check_corners l n a q ok
-
-      answer_room : length bytes < n → classes_refused 8 n ≡ classes_answer l n (length bytes) (length work)
+    module _ (room : n ≤ length lent) where
+      pub classes_words : length work < 4 * c → ClassesPost (Err (Classes·.WorkShort (4 * c))) lent work
       unfolding classes_answer
-      answer_room h = rw (← q, ok, lt-ltb (length bytes) n h)
+      classes_words k =
+          classes_kept (Classes·.WorkShort (4 * c))
+          (rw (← q, le-ltb (length lent) n room, ← corners_are l n f c q, lt-ltb (length work) (4 * c) k))
 
-      pub classes_room : length bytes < n → ClassesPost (classes_refused 8 n) bytes work
-      classes_room h = classes_kept 8 n (λ z. omega arith) (answer_room h)
+      answer_done : 4 * c ≤ length work → classes_told (Ok tt) ≡ classes_answer l n (length lent) (length work)
+      unfolding classes_answer
+      answer_done k = rw (← q, le-ltb (length lent) n room, ← corners_are l n f c q, le-ltb (length work) (4 * c) k)
 
-      module _ (room : n ≤ length bytes) where
-        answer_words : length work < 4 * a.corners → classes_refused 9 (4 * a.corners) ≡ classes_answer l n (length bytes) (length work)
-        unfolding classes_answer
-        answer_words k = rw (words, ← q, ok, le-ltb (length bytes) n room, lt-ltb (length work) (4 * length (corners l)) (omega (arith, words)))
-
-        pub classes_words : length work < 4 * a.corners → ClassesPost (classes_refused 9 (4 * a.corners)) bytes work
-        classes_words k = classes_kept 9 (4 * a.corners) (λ z. omega arith) (answer_words k)
-
-        answer_done : 4 * a.corners ≤ length work → classes_refused 0 0 ≡ classes_answer l n (length bytes) (length work)
-        unfolding classes_answer
-        answer_done k = rw (← q, ok, le-ltb (length bytes) n room, le-ltb (length work) (4 * length (corners l)) (omega (arith, words)))
-
-        pub classes_done : 4 * a.corners ≤ length work → (xs ws : List ℕ) → xs ≡ classes_of l n → length xs ≡ n → ws ≡ replicate (4 * a.corners) 0 → ClassesPost (classes_refused 0 0) (xs ++ drop n bytes) (ws ++ drop (4 * a.corners) work)
-        unfolding classes_bytes classes_work
-        classes_done k xs ws e s d = (
-          answer_done k,
-          (
-            rw (← answer_done k) (over_is xs (classes_of l n) bytes n e s),
-            rw (← answer_done k) (over_is ws (replicate (4 * length (corners l)) 0) work (4 * a.corners) (d ∙ rw words) (rw d (length-replicate (4 * a.corners) 0))),
-          ),
-        )
+      pub classes_done : 4 * c ≤ length work → (xs ws : List ℕ) → xs ≡ classes_of l n → length xs ≡ n → ws ≡ replicate (4 * c) 0 → ClassesPost (Ok tt) (xs ++ drop n lent) (ws ++ drop (4 * c) work)
+      unfolding classes_bytes classes_work
+      classes_done k xs ws e s d =
+          record {
+            answer = answer_done k;
+            bytes = rw (← answer_done k) (over_is xs (classes_of l n) lent n e s);
+            cleared = rw (← answer_done k, ← corners_are l n f c q) (over_is ws (replicate (4 * c) 0) work (4 * c) d (rw d (length-replicate (4 * c) 0)));
+          }
 
 -- what the cut answers and leaves
 module _ (l : List ℤ) (n : ℕ) (new_list map : List ℤ) (work : List ℕ) where
   abbrev answer : CutAnswer
   answer = cut_of l n (length new_list) (length map) (length work)
 
-  abbrev pub CutPost : CutAnswer → List ℤ → List ℤ → List ℕ → Type 0
-  CutPost r new_list' map' work' =
-      (r ≡ cut_of l n (length new_list) (length map) (length work)) ×
-      ((new_list' ≡ cut_list l n new_list map work) × ((map' ≡ cut_map l n new_list map work) × (work' ≡ cut_work l n new_list map work)))
+  pub record CutPost (r : Result Cut CutRefusal) (new_list' map' : List ℤ) (work' : List ℕ) : Type 0 where
+    pub answer : cut_told r ≡ cut_of l n (length new_list) (length map) (length work)
+    pub filled : new_list' ≡ cut_list l n new_list map work
+    pub mapped : map' ≡ cut_map l n new_list map work
+    pub cleared : work' ≡ cut_work l n new_list map work
 
-  cut_kept : (r : CutAnswer) (code place : ℕ) → r ≡ cut_refused code place → (code ≡ 0 → ⊥) → cut_refused code place ≡ answer → CutPost r new_list map work
+  cut_kept : (r : CutRefusal) → cut_told (Err r) ≡ answer → CutPost (Err r) new_list map work
   unfolding cut_list cut_map cut_work
-  cut_kept r code place p z e =
-      (p ∙ e, (rw (← e, ne_eqb code 0 z), (rw (← e, ne_eqb code 0 z), rw (← e, ne_eqb code 0 z))))
+  cut_kept r e =
+      let none = ne_eqb (cut_code r) 0 (cut_coded r) in
+      record { answer = e; filled = rw (← e, none); mapped = rw (← e, none); cleared = rw (← e, none) }
 
-  module _ (a : CheckAnswer) (q : a ≡ check_of l n) where
-    cut_answer_check : (a.code ≡ 0 → ⊥) → cut_refused a.code a.place ≡ answer
+  pub cut_invalid : (r : Result Cut CutRefusal) (f : Fault) → IsErrAnd r (λ x. x ≡ Cut·.Invalid f) → refused (code_of f) (place_of f) ≡ check_of l n → CutPost r new_list map work
+  unfolding cut_of
+  cut_invalid (Ok made) f e q = absurd e
+  cut_invalid (Err x) f e q = rw e (cut_kept (Cut·.Invalid f) (rw (← q, ne_eqb (code_of f) 0 (fault_coded f))))
+
+  module _ (f c : ℕ) (q : accepted f c ≡ check_of l n) where
+    pub cut_list_room : length new_list < length l → CutPost (Err (Cut·.NewListShort (length l))) new_list map work
     unfolding cut_of
-    cut_answer_check z = rw (← q, ne_eqb a.code 0 z)
+    cut_list_room h = cut_kept (Cut·.NewListShort (length l)) (rw (← q, lt-ltb (length new_list) (length l) h))
 
-    pub cut_check : (r : CutAnswer) → r ≡ cut_refused a.code a.place → (a.code ≡ 0 → ⊥) → CutPost r new_list map work
-    cut_check r p z = cut_kept r a.code a.place p z (cut_answer_check z)
-
-    module _ (ok : a.code ≡ 0) where
-      abbrev count : a.corners ≡ length (corners l)
-      count = check_corners l n a q ok
-
-      cut_answer_list : length new_list < length l → cut_refused 6 (length l) ≡ answer
+    module _ (room : length l ≤ length new_list) where
+      pub cut_map_room : length map < c → CutPost (Err (Cut·.MapShort c)) new_list map work
       unfolding cut_of
-      cut_answer_list h = rw (← q, ok, lt-ltb (length new_list) (length l) h)
+      cut_map_room h =
+          cut_kept (Cut·.MapShort c) (rw (← q, le-ltb (length new_list) (length l) room, ← corners_are l n f c q, lt-ltb (length map) c h))
 
-      pub cut_list_room : (r : CutAnswer) → r ≡ cut_refused 6 (length l) → length new_list < length l → CutPost r new_list map work
-      cut_list_room r p h = cut_kept r 6 (length l) p (λ z. omega arith) (cut_answer_list h)
-
-      module _ (room : length l ≤ length new_list) where
-        cut_answer-map : length map < a.corners → cut_refused 7 a.corners ≡ answer
+      module _ (back : c ≤ length map) where
+        pub cut_words : length work < 4 * c → CutPost (Err (Cut·.WorkShort (4 * c))) new_list map work
         unfolding cut_of
-        cut_answer-map h = rw (count, ← q, ok, le-ltb (length new_list) (length l) room, lt-ltb (length map) (length (corners l)) (omega (arith, count)))
+        cut_words h =
+            cut_kept (Cut·.WorkShort (4 * c))
+            (rw (← q, le-ltb (length new_list) (length l) room, ← corners_are l n f c q, le-ltb (length map) c back, lt-ltb (length work) (4 * c) h))
 
-        pub cut_map_room : (r : CutAnswer) → r ≡ cut_refused 7 a.corners → length map < a.corners → CutPost r new_list map work
-        cut_map_room r p h = cut_kept r 7 a.corners p (λ z. omega arith) (cut_answer-map h)
-
-        module _ (back : a.corners ≤ length map) where
-          cut_answer_words : length work < 4 * a.corners → cut_refused 9 (4 * a.corners) ≡ answer
+        module _ (words : 4 * c ≤ length work) (counts : Cut) (xs ys : List ℤ) (ws : List ℕ) (M : CutMade l n f c counts xs map ys ws) where
+          answer_made : cut_told (Ok counts) ≡ answer
           unfolding cut_of
-          cut_answer_words h =
-              rw (count, ← q, ok, le-ltb (length new_list) (length l) room, le-ltb (length map) (length (corners l)) (omega (arith, count)), lt-ltb (length work) (4 * length (corners l)) (omega (arith, count)))
+          answer_made =
+              rw (M.faces_are, M.corners_are, M.vertices_are, M.edges_are, M.points_are, ← q, le-ltb (length new_list) (length l) room, ← corners_are l n f c q, le-ltb (length map) c back, le-ltb (length work) (4 * c) words)
 
-          pub cut_words : (r : CutAnswer) → r ≡ cut_refused 9 (4 * a.corners) → length work < 4 * a.corners → CutPost r new_list map work
-          cut_words r p h = cut_kept r 9 (4 * a.corners) p (λ z. omega arith) (cut_answer_words h)
-
-          module _ (words : 4 * a.corners ≤ length work) (v s p : ℕ) (xs ys : List ℤ) (ws : List ℕ) (M : CutMade l n a.corners v s p xs map ys ws) where
-            cut_answer_made :
-                ◌≡◌
-                {A = CutAnswer}
-                (record {
-                  code = 0;
-                  place = 0;
-                  faces = a.faces;
-                  corners = a.corners;
-                  vertices = v;
-                  singular_edges = s;
-                  singular_vertices = p;
-                })
-                answer
-            unfolding cut_of
-            cut_answer_made =
-                rw (M.vertices_are, M.edges_are, M.points_are, ← q, ok, le-ltb (length new_list) (length l) room, le-ltb (length map) (length (corners l)) (omega (arith, count)), le-ltb (length work) (4 * length (corners l)) (omega (arith, count)))
-
-            pub cut_made :
-                length xs ≡ length l →
-                CutPost
-                (record {
-                  code = 0;
-                  place = 0;
-                  faces = a.faces;
-                  corners = a.corners;
-                  vertices = v;
-                  singular_edges = s;
-                  singular_vertices = p;
-                })
-                (xs ++ drop (length l) new_list)
-                ys
-                (ws ++ drop (4 * a.corners) work)
-            unfolding cut_list cut_map cut_work
-            cut_made size = (
-              cut_answer_made,
-              (
-                rw (← cut_answer_made) (over_is xs (new_list_of l (group_labels l)) new_list (length l) M.list size),
-                (
-                  rw (← cut_answer_made) M.back,
-                  rw (← cut_answer_made) (over_is ws (replicate (4 * length (corners l)) 0) work (4 * a.corners) (M.cleared ∙ rw count) (rw M.cleared (length-replicate (4 * a.corners) 0))),
-                ),
-              ),
-            )
+          pub cut_done : length xs ≡ length l → CutPost (Ok counts) (xs ++ drop (length l) new_list) ys (ws ++ drop (4 * c) work)
+          unfolding cut_list cut_map cut_work
+          cut_done size =
+              record {
+                answer = answer_made;
+                filled = rw (← answer_made) (over_is xs (new_list_of l (group_labels l)) new_list (length l) M.list size);
+                mapped = rw (← answer_made) M.back;
+                cleared = rw (← answer_made, ← corners_are l n f c q)
+                    (over_is ws (replicate (4 * c) 0) work (4 * c) M.cleared (rw M.cleared (length-replicate (4 * c) 0)));
+              }

@@ -9,20 +9,19 @@ use lib.Dec.{eqb}
 use lib.IntN.{ℤ, pos}
 use lib.ListN.{length, get_or, take, drop, replicate, length-map, length-replicate, replicate-append-replicate, get_or-map}
 use lib.Seq.{length-take-le, take_at}
-use Rattle.list.specs.Faces.{corners, num, vertices}
-use Rattle.list.specs.Check.{Valid}
+use Rattle.list.specs.Faces.{num, vertices}
+use Rattle.list.specs.declared.valid.ValidList.{ValidList}
+use Rattle.list.proofs.Passed.{list_valid}
 use Rattle.order.specs.Choose.{All, choose, count, up_from}
 use Rattle.order.proofs.Lists.{all_at, choose_few, length-up_from}
-use Rattle.edges.specs.Uses.{singular_edge_count}
-use Rattle.edges.proofs.Uses.{uses_long}
 use Rattle.groups.specs.Groups.{group_labels, fan_labels}
 use Rattle.renumber.specs.Renumber.{map_of}
 use Rattle.fans.specs.Classes.{class_of, classes_of, is_singular_class, singular_vertex_count}
 use Rattle.groups.specs.Forest.{at, Forest, VertexWords, Grouped, is_root}
 use Rattle.renumber.specs.Numbered.{CornerWords, root_vertices, Renumbered}
-use Rattle.cut.specs.Made.{GroupsCut, CutMade}
+use Rattle.cut.specs.Made.{GroupsCut}
 use Rattle.fans.specs.Marks.{roots_on, marks_end, boundary_word, singular_word}
-use Rattle.fans.specs.Singular.{is_singular_mark, after_fans, EndsCounted, FansCounted}
+use Rattle.fans.specs.Singular.{is_singular_mark, after_fans, NoneWhereZero, EndsCounted, FansCounted}
 use Rattle.renumber.proofs.Sizes.{map-length}
 use Rattle.renumber.proofs.Numbering.{map_of_roots}
 use Rattle.fans.proofs.SingularCount.{mark_class, count_same}
@@ -42,11 +41,9 @@ module _ (n m : ℕ) (h : n ≤ m) where
       let rest : n + (m - n) ≡ m = omega arith in
       ap (λ (k : ℕ). take n (zeros k)) (sym rest) ∙ ap (take n) (sym (replicate-append-replicate n (m - n) 0)) ∙ take_at (zeros n) (zeros (m - n)) n (length-replicate n 0)
 
-  pub lent_marks : (l : List ℤ) → Valid l n → Valid l (length (take n (zeros m))) × (take n (zeros m) ≡ zeros (length (take n (zeros m))))
-  lent_marks l ok = rw (← lent_long) (ok, lent_zeros)
-
-  pub lent_cut : (l : List ℤ) (v p : ℕ) (new_list old new : List ℤ) → GroupsCut l (length (take n (zeros m))) v p new_list old new → GroupsCut l n v p new_list old new
-  lent_cut l v p new_list old new G = rw (← lent_long) at G
+  pub lent_ends : (w : List ℕ) (c e : ℕ) → VertexWords w c n → NoneWhereZero w c e
+      → VertexWords w c (length (take n (zeros m))) × (take n (zeros m) ≡ zeros (length (take n (zeros m)))) × NoneWhereZero w c e
+  lent_ends w c e W z = rw (← lent_long) (W, lent_zeros, z)
 
 -- the entries of vertices are those vertices
 vertices_back : (vs : List ℕ) → vertices (map pos vs) ≡ vs
@@ -81,20 +78,31 @@ groups_are_fans : (l : List ℤ) → fan_labels l ≡ group_labels l
 unfolding fan_labels group_labels
 groups_are_fans l = refl
 
-module _ (l : List ℤ) (n c : ℕ) (ok : Valid l n) (w : List ℕ) (G : Grouped l c w) where
-  corners_are : c ≡ length (corners l)
-  corners_are = G.count ∙ uses_long l
+-- a list, and the work buffer in which its corners are grouped
+module _ (list : ValidList) (w : List ℕ) (G : Grouped list.entries.now list.corners w) where
+  abbrev l : List ℤ
+  l = list.entries.now
+
+  abbrev n : ℕ
+  n = list.vertices
+
+  abbrev c : ℕ
+  c = list.corners
 
   pub marks_words : VertexWords w c n
-  marks_words = words_of_groups l n c ok corners_are w G
+  marks_words = words_of_groups l n c (list_valid list) list.corners_counted w G
 
   pub entry_words : CornerWords l c w
-  entry_words = corner_words_lem l n c ok corners_are w G
+  entry_words = corner_words_lem l n c (list_valid list) list.corners_counted w G
 
-  pub groups_forest : Forest w (3 * c) (group_labels l)
+  groups_forest : Forest w (3 * c) (group_labels l)
   groups_forest = rw (groups_are_fans l) at G.forest
 
-  module _ (r : ℕ) (new_list old new : List ℤ) (R : Renumbered l (group_labels l) r new_list old new) where
+  -- what the numbering of the groups made
+  module _ (r : ℕ) (new_list old new : List ℤ) (numbered : (labels : List ℕ) → Forest w (3 * c) labels → Renumbered l labels r new_list old new) where
+    R : Renumbered l (group_labels l) r new_list old new
+    R = numbered (group_labels l) groups_forest
+
     map_long : length (map_of l (group_labels l)) ≡ r
     map_long = map-length l (group_labels l) ∙ sym R.count
 
@@ -141,8 +149,3 @@ module _ (l : List ℤ) (n c : ℕ) (ok : Valid l n) (w : List ℕ) (G : Grouped
 
       pub groups_cut : GroupsCut l n r (s + t) new_list old new
       groups_cut = record { renumbered = R; points_are = points_are }
-
-pub cut_made : (l : List ℤ) (n c v s p : ℕ) (new_list old new : List ℤ) (work : List ℕ) → GroupsCut l n v p new_list old new → s ≡ singular_edge_count l → work ≡ replicate (4 * c) 0 → CutMade l n c v s p new_list old new work
-cut_made l n c v s p new_list old new work G a d =
-    let R = G.renumbered in
-    record { list = R.list; back = R.back; cleared = d; vertices_are = R.count; edges_are = a; points_are = G.points_are }

@@ -1,3 +1,4 @@
 pub mod Words
 pub mod Cutting
+pub mod Told
 pub mod Answers

@@ -1,6 +1,8 @@
 -- The answers of the cut and of the class call, and what they leave in the lent buffers (document 01, "Numbers given back, and
 -- their order"). The buffers' lengths decide codes 6 to 9; their content at entry is kept wherever nothing is written.
 --
+--   CutAnswer              the cut's answer: code, place, faces, corners, vertices, singular edges, singular vertices
+--   ClassesAnswer          the class call's answer: code, place
 --   cut_numbers r          the seven numbers of the cut's answer r, in document 01's order
 --   cut_of l n a b w        the cut's answer for buffers of a, b and w: new list, map, work
 --   classes_answer l n b w  the class call's answer for buffers of b and w: classes, work
@@ -14,8 +16,19 @@ use Rattle.groups.specs.Groups.{group_labels}
 use Rattle.renumber.specs.Renumber.{new_list_of, new_vertices, map_of}
 use Rattle.list.specs.Written.{over}
 use Rattle.fans.specs.Classes.{classes_of, singular_vertex_count}
-use Rattle.cut.specs.declared.CutAnswer.{CutAnswer}
-use Rattle.cut.specs.declared.ClassesAnswer.{ClassesAnswer}
+
+pub record CutAnswer : Type 0 where
+  pub code : ℕ
+  pub place : ℕ
+  pub faces : ℕ
+  pub corners : ℕ
+  pub vertices : ℕ
+  pub singular_edges : ℕ
+  pub singular_vertices : ℕ
+
+pub record ClassesAnswer : Type 0 where
+  pub code : ℕ
+  pub place : ℕ
 
 -- words of work that are needed
 abbrev pub words_needed : List ℤ → ℕ

@@ -3,231 +3,131 @@
 #![tactic(auto)]
 
 ghost use Rattle.std.specs.Prelude.{◌≡◌, ◌*◌, ◌≤◌, length, replicate};
-ghost use Rattle.list.specs.Faces.{corners};
-ghost use Rattle.list.specs.Check.{Valid};
+ghost use Rattle.list.specs.Limits.{max_vertices};
 ghost use Rattle.edges.specs.Uses.{singular_edge_count};
 ghost use Rattle.fans.specs.Classes.{classes_of};
-ghost use Rattle.cut.specs.Cut.{cut_numbers, cut_refused, cut_of, cut_list, cut_map, cut_work, classes_answer, classes_bytes, classes_work};
 ghost use Rattle.groups.specs.Forest.{Grouped};
+ghost use Rattle.cut.specs.Cut.{cut_of, cut_list, cut_map, cut_work, classes_answer, classes_bytes, classes_work};
+ghost use Rattle.cut.specs.Told.{cut_told, classes_told};
 ghost use Rattle.cut.specs.Made.{GroupsCut, CutMade};
 
-use list::IndexList;
+pub mod answer;
 
-mod work;
+pub use answer::{ClassesRefusal, Cut, CutRefusal, numbers};
+use list::{IndexList, ValidList};
 
-// The cut's answer.
-#[derive(Clone, Copy)]
-pub struct CutAnswer {
-    pub code: u32,
-    pub place: usize,
-    pub faces: usize,
-    pub corners: usize,
-    pub vertices: usize,
-    pub singular_edges: usize,
-    pub singular_vertices: usize,
-}
-
-impl CutAnswer {
-    // The seven numbers in document 01's order.
-    pub fn numbers(self) -> [u64; 7]
-        ensures { result ≡ cut_numbers self }
-    {
-        [
-            self.code as u64,
-            self.place as u64,
-            self.faces as u64,
-            self.corners as u64,
-            self.vertices as u64,
-            self.singular_edges as u64,
-            self.singular_vertices as u64,
-        ]
-    }
-}
-
-// The class call's answer.
-#[derive(Clone, Copy)]
-pub struct ClassesAnswer {
-    pub code: u32,
-    pub place: usize,
-}
-
-// The numbers that the cut of a valid list counts.
-#[derive(Drop)]
-struct Counts {
-    vertices: usize,
-    singular_edges: usize,
-    singular_vertices: usize,
-}
-
-// Those of them that count vertices.
-#[derive(Drop)]
-struct VertexCounts {
-    vertices: usize,
-    singular_vertices: usize,
-}
-
-// The classes of the vertices 0 to n-1, a byte each at the start of `classes`, and code 0. Refuses what the check refuses, a
-// class buffer shorter than n by 8 and work shorter than four words a corner by 9; then nothing is written.
-pub fn classes(list: &[i32], n: usize, classes: &mut [u8], work: &mut [u32]) -> ClassesAnswer
-    ensures answer { result ≡ classes_answer list.now n (length classes.old) (length work.old) }
+// The classes of the vertices 0 to n-1, a byte each at the start of `classes`. Refuses what the check refuses, a class buffer
+// shorter than n by 8 and work shorter than four words a corner by 9; then nothing is written.
+pub fn classes(
+    list: &[i32],
+    n: usize,
+    classes: &mut [u8],
+    work: &mut [u32],
+) -> Result<(), ClassesRefusal>
+    ensures answer { classes_told result ≡ classes_answer list.now n (length classes.old) (length work.old) }
     ensures bytes { classes.new ≡ classes_bytes list.now n classes.old work.old }
     ensures cleared { work.new ≡ classes_work list.now n classes.old work.old }
 {
-    let checked = list::check(list, n);
-    let code = checked.code;
-    if code != 0 {
-        return ClassesAnswer {
-            code,
-            place: checked.place,
-        };
-    }
+    let list = ValidList::new(list, n)?;
     if classes.len() < n {
-        return ClassesAnswer { code: 8, place: n };
+        return Err(ClassesRefusal::ClassesShort(n));
     }
-    let c = checked.corners;
-    let words = 4 * c;
+    let words = 4 * list.corners;
     if work.len() < words {
-        return ClassesAnswer {
-            code: 9,
-            place: words,
-        };
+        return Err(ClassesRefusal::WorkShort(words));
     }
-    class_list(list, n, c, &mut classes[..n], &mut work[..words]);
-    ClassesAnswer { code: 0, place: 0 }
+    class_list(list, &mut classes[..n], &mut work[..words]);
+    Ok(())
 }
 
-// The classes of a valid list in marks for its n vertices; the work is cleared.
-fn class_list(list: &[i32], n: usize, c: usize, marks: &mut [u8], work: &mut [u32])
-    requires { Valid list.now n × (c ≡ length (corners list.now)) × (length marks.old ≡ n) × (length work.old ≡ 4 * c) }
-    ensures { (marks.new ≡ classes_of list.now n) × (work.new ≡ replicate (4 * c) 0) }
+// The classes of a list in marks for its vertices; the work is cleared.
+fn class_list(list: ValidList<'_>, marks: &mut [u8], work: &mut [u32])
+    requires { (length marks.old ≡ list.vertices) × (length work.old ≡ 4 * list.corners) }
+    ensures { (marks.new ≡ classes_of list.entry.entries.now list.entry.vertices) × (work.new ≡ replicate (4 * list.entry.corners) 0) }
 {
-    groups::group_list(list, n, c, work);
-    fans::marks::mark(work, c, marks);
-    work::clear(work);
+    groups::group_list(list.entries, list.vertices, list.corners, work);
+    fans::marks::mark(work, list.corners, marks);
+    work.fill(0);
 }
 
-// The global cut: the new list, the map, and the seven numbers. Refuses what the check refuses, a new list buffer shorter than
-// the list by 6, a map shorter than the corner count by 7 and work shorter than four words a corner by 9; then nothing is written.
+// The global cut: the new list, the map, and what it counts. Refuses what the check refuses, a new list buffer shorter than the
+// list by 6, a map shorter than the corner count by 7 and work shorter than four words a corner by 9; then nothing is written.
 pub fn cut(
     list: &[i32],
     n: usize,
     new_list: &mut [i32],
     map: &mut [i32],
     work: &mut [u32],
-) -> CutAnswer
-    ensures answer { result ≡ cut_of list.now n (length new_list.old) (length map.old) (length work.old) }
+) -> Result<Cut, CutRefusal>
+    ensures answer { cut_told result ≡ cut_of list.now n (length new_list.old) (length map.old) (length work.old) }
     ensures filled { new_list.new ≡ cut_list list.now n new_list.old map.old work.old }
     ensures mapped { map.new ≡ cut_map list.now n new_list.old map.old work.old }
     ensures cleared { work.new ≡ cut_work list.now n new_list.old map.old work.old }
 {
-    let checked = list::check(list, n);
-    let code = checked.code;
-    if code != 0 {
-        return refusal(code, checked.place);
-    }
-    let size = list.len();
-    let c = checked.corners;
+    let list = ValidList::new(list, n)?;
+    let size = list.entries.len();
+    let c = list.corners;
     if new_list.len() < size {
-        return refusal(6, size);
+        return Err(CutRefusal::NewListShort(size));
     }
     if map.len() < c {
-        return refusal(7, c);
+        return Err(CutRefusal::MapShort(c));
     }
     let words = 4 * c;
     if work.len() < words {
-        return refusal(9, words);
+        return Err(CutRefusal::WorkShort(words));
     }
-    let counts = cut_list(list, n, c, &mut new_list[..size], map, &mut work[..words]);
-    CutAnswer {
-        code: 0,
-        place: 0,
-        faces: checked.faces,
-        corners: c,
-        vertices: counts.vertices,
-        singular_edges: counts.singular_edges,
-        singular_vertices: counts.singular_vertices,
-    }
+    Ok(cut_list(list, &mut new_list[..size], map, &mut work[..words]))
 }
 
-// The cut's answer where it refuses: the counts are 0.
-fn refusal(code: u32, place: usize) -> CutAnswer
-    ensures { result ≡ cut_refused code place }
+// The cut of a list in buffers that are long enough; the work is cleared.
+// kept: the buffers stay three parameters; a struct of three borrows would be made once and taken apart at each use.
+fn cut_list(list: ValidList<'_>, new_list: &mut [i32], map: &mut [i32], work: &mut [u32]) -> Cut
+    requires { (length new_list.old ≡ length list.entries.now) × (list.corners ≤ length map.old) × (length work.old ≡ 4 * list.corners) }
+    ensures { CutMade list.entry.entries.now list.entry.vertices list.entry.faces list.entry.corners result new_list.new map.old map.new work.new }
 {
-    CutAnswer {
-        code,
-        place,
-        faces: 0,
-        corners: 0,
-        vertices: 0,
-        singular_edges: 0,
-        singular_vertices: 0,
-    }
-}
-
-// The new vertices of the groups of a valid list, and the number of its singular vertices, from that of its singular edges and
-// with a mark for each vertex, all 0.
-fn cut_marked(
-    list: &[i32],
-    c: usize,
-    new_list: &mut [i32],
-    map: &mut [i32],
-    work: &mut [u32],
-    edges: usize,
-    marks: &mut [u8],
-) -> VertexCounts
-    requires { Valid list.now (length marks.old) × Grouped list.now c work.old × (edges ≡ singular_edge_count list.now) × (length new_list.old ≡ length list.now) × (c ≤ length map.old) × (marks.old ≡ replicate (length marks.old) 0) }
-    ensures { GroupsCut list.now (length marks.old) result.vertices result.singular_vertices new_list.new map.old map.new }
-{
-    let ends = fans::singular::singular_ends(work, c, edges, marks);
-    let vertices = renumber::renumber(list, work, c, new_list, map);
-    let fans = fans::singular::count_fans(&map[..vertices], marks);
-    let singular_vertices = ends + fans;
-    VertexCounts {
-        vertices,
-        singular_vertices,
-    }
-}
-
-// The same with marks of its own.
-fn cut_groups(
-    list: &[i32],
-    n: usize,
-    c: usize,
-    new_list: &mut [i32],
-    map: &mut [i32],
-    work: &mut [u32],
-    edges: usize,
-) -> VertexCounts
-    requires { Valid list.now n × Grouped list.now c work.old × (edges ≡ singular_edge_count list.now) × (length new_list.old ≡ length list.now) × (c ≤ length map.old) }
-    ensures { GroupsCut list.now n result.vertices result.singular_vertices new_list.new map.old map.new }
-{
-    if n <= IndexList::FEW_VERTICES {
-        let mut marks = [0u8; IndexList::FEW_VERTICES];
-        cut_marked(list, c, new_list, map, work, edges, &mut marks[..n])
+    let singular_edges = groups::group_list(list.entries, list.vertices, list.corners, work);
+    let counts = if list.vertices <= IndexList::FEW_VERTICES {
+        cut_groups::<{ IndexList::FEW_VERTICES }>(list, singular_edges, new_list, map, work)
     } else {
-        let mut marks = [0u8; IndexList::MAX_VERTICES];
-        cut_marked(list, c, new_list, map, work, edges, &mut marks[..n])
-    }
-}
-
-// The cut of a valid list in buffers that are long enough; the work is cleared.
-fn cut_list(
-    list: &[i32],
-    n: usize,
-    c: usize,
-    new_list: &mut [i32],
-    map: &mut [i32],
-    work: &mut [u32],
-) -> Counts
-    requires { Valid list.now n × (c ≡ length (corners list.now)) × (length new_list.old ≡ length list.now) × (c ≤ length map.old) × (length work.old ≡ 4 * c) }
-    ensures { CutMade list.now n c result.vertices result.singular_edges result.singular_vertices new_list.new map.old map.new work.new }
-{
-    let singular_edges = groups::group_list(list, n, c, work);
-    let counts = cut_groups(list, n, c, new_list, map, work, singular_edges);
-    work::clear(work);
-    Counts {
+        cut_groups::<{ IndexList::MAX_VERTICES }>(list, singular_edges, new_list, map, work)
+    };
+    work.fill(0);
+    Cut {
+        faces: list.faces,
+        corners: list.corners,
         vertices: counts.vertices,
         singular_edges,
         singular_vertices: counts.singular_vertices,
+    }
+}
+
+// The counts that the groups of a list make: two of those of `Cut`, whose others are known before.
+#[derive(Drop)]
+struct VertexCounts {
+    vertices: usize,
+    singular_vertices: usize,
+}
+
+// The new vertices of the groups of a list, and the number of its singular vertices, from that of its singular edges, with a
+// table for at most MOST vertices.
+fn cut_groups<const MOST: usize>(
+    list: ValidList<'_>,
+    singular_edges: usize,
+    new_list: &mut [i32],
+    map: &mut [i32],
+    work: &mut [u32],
+) -> VertexCounts
+    requires { (list.vertices ≤ MOST) × (MOST ≤ max_vertices) × Grouped list.entries.now list.corners work.old × (singular_edges ≡ singular_edge_count list.entries.now) × (length new_list.old ≡ length list.entries.now) × (list.corners ≤ length map.old) }
+    ensures { GroupsCut list.entry.entries.now list.entry.vertices result.vertices result.singular_vertices new_list.new map.old map.new }
+{
+    let mut table = [0u8; MOST];
+    let marks = &mut table[..list.vertices];
+    let ends = fans::singular::singular_ends(work, list.corners, singular_edges, marks);
+    let vertices = renumber::renumber(list.entries, work, list.corners, new_list, map);
+    let fans = fans::singular::count_fans(&map[..vertices], marks);
+    VertexCounts {
+        vertices,
+        singular_vertices: ends + fans,
     }
 }

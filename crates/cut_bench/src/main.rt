@@ -2,69 +2,53 @@
 // more than is written, which stays as it was, and how many words of the work are left as they were.
 #![tactic(auto)]
 
-ghost use Rattle.std.specs.Prelude.{◌≡◌, ◌+◌, ◌<◌, ◌≤◌, ◌^◌, length};
-ghost use Rattle.list.specs.Limits.{max_entries};
+ghost use Rattle.std.specs.Prelude.{◌+◌, ◌<◌, ◌^◌};
 
+use cut::{Cut, CutRefusal};
+use list::Refusal;
 use std::io;
 
 const LIMIT: usize = list::IndexList::MAX_ENTRIES;
 
-const LAST_FACE: usize = LIMIT - 4;
+// Faces of three entries and their -1 fill a list at the limit.
+const FACES: usize = LIMIT / 4;
 
 // Two tetrahedra on one edge.
+// kept: here and in edges_bench, as the other bench lists and `print_list`, a second time: a library for them would be longer.
 const BODIES: [i32; 32] = [
     0, 1, 2, -1, 0, 3, 1, -1, 0, 2, 3, -1, 1, 3, 2, -1, 0, 1, 4, -1, 0, 5, 1, -1, 0, 4, 5, -1, 1,
     5, 4, -1,
 ];
 
-fn print_number(rt: &impl Print, n: usize, end: &[u8]) -> io::Result<()> {
-    print!(rt; "{n}")?;
-    rt.write_all(end)
+fn print_answer(rt: &impl Print, answer: Result<Cut, CutRefusal>) -> io::Result<()> {
+    let [code, place, faces, corners, vertices, edges, points] = cut::numbers(answer);
+    println!(rt; "{code} {place} {faces} {corners} {vertices} {edges} {points}")
 }
 
-fn print_answer(rt: &impl Print, a: cut::CutAnswer) -> io::Result<()> {
-    print_number(rt, a.code as usize, b" ")?;
-    print_number(rt, a.place, b" ")?;
-    print_number(rt, a.faces, b" ")?;
-    print_number(rt, a.corners, b" ")?;
-    print_number(rt, a.vertices, b" ")?;
-    print_number(rt, a.singular_edges, b" ")?;
-    print_number(rt, a.singular_vertices, b"\n")
-}
-
+// The text of a list, where it is short.
 fn print_list(rt: &impl Print, list: &[i32]) -> io::Result<()> {
     let mut out = [0u8; 256];
-    let answer = text::write(list, &mut out);
-    let n = answer.length;
-    if n <= 256 {
-        rt.write_all(&out[..n])?;
-    }
+    let n = text::write(list, &mut out).unwrap_or(0);
+    rt.write_all(&out[..n])?;
     rt.write_all(b"\n")
 }
 
 fn print_classes(rt: &impl Print, classes: &[u8]) -> io::Result<()> {
-    for v in 0..classes.len() {
-        print_number(rt, classes[v] as usize, b" ")?;
+    for class in classes {
+        print!(rt; "{class} ")?;
     }
     rt.write_all(b"\n")
 }
 
 // How many words are 7.
 fn count_sevens(work: &[u32]) -> usize {
-    let mut k = 0;
-    for i in 0..work.len() {
-        if work[i] == 7 {
-            k += 1;
-        }
-    }
-    k
+    work.iter().filter(|word| **word == 7).count()
 }
 
 // The first entries of a list, with one more.
 fn print_first(rt: &impl Print, list: &[i32], n: usize) -> io::Result<()> {
-    if n < list.len() {
-        let end = n + 1;
-        print_list(rt, &list[..end])?;
+    if let Some(first) = list.get(..=n) {
+        print_list(rt, first)?;
     }
     Ok(())
 }
@@ -74,19 +58,21 @@ fn show_cut(rt: &impl Print, list: &[i32], n: usize) -> io::Result<()> {
     let mut map = [7i32; 40];
     let mut work = [7u32; 160];
     let answer = cut::cut(list, n, &mut new_list, &mut map, &mut work);
+    let vertices = answer.map_or(0, |made| made.vertices);
     print_answer(rt, answer)?;
     print_first(rt, &new_list, list.len())?;
-    print_first(rt, &map, answer.vertices)?;
-    print_number(rt, count_sevens(&work), b"\n")
+    print_first(rt, &map, vertices)?;
+    println!(rt; "{}", count_sevens(&work))
 }
 
 fn show_classes(rt: &impl Print, list: &[i32], n: usize) -> io::Result<()> {
     let mut classes = [7u8; 12];
     let mut work = [7u32; 160];
-    let answer = cut::classes(list, n, &mut classes, &mut work);
-    print_number(rt, answer.code as usize, b" ")?;
-    print_number(rt, answer.place, b" ")?;
-    print_number(rt, count_sevens(&work), b"\n")?;
+    let (code, place) = match cut::classes(list, n, &mut classes, &mut work) {
+        Ok(()) => (0, 0),
+        Err(refusal) => (refusal.code(), refusal.place()),
+    };
+    println!(rt; "{code} {place} {}", count_sevens(&work))?;
     print_classes(rt, &classes)
 }
 
@@ -95,37 +81,31 @@ fn show(rt: &impl Print, list: &[i32], n: usize) -> io::Result<()> {
     show_classes(rt, list, n)
 }
 
-// A face with its end at the start of a part of a list.
-fn put_face(list: &mut [i32], at: usize, a: usize, b: usize)
-    requires { (at + 4 ≤ length list.old) × (a < 2 ^ 31) × (b < 2 ^ 31) }
+// A face with its end.
+fn face(a: usize, b: usize) -> [i32; 4]
+    requires { (a < 2 ^ 31) × (b < 2 ^ 31) }
 {
-    list[at] = 0;
-    list[at + 1] = a as i32;
-    list[at + 2] = b as i32;
-    list[at + 3] = -1;
+    [0, a as i32, b as i32, -1]
 }
 
 // 16,384 faces on the edge between the vertices 0 and 1.
-fn fill_book(list: &mut [i32])
-    requires { length list.old ≡ max_entries }
-{
-    for k in 0..16384 {
-        put_face(list, 4 * k, 1, k + 2);
+fn fill_book(faces: &mut [[i32; 4]; FACES]) {
+    for (k, put) in faces.iter_mut().enumerate() {
+        *put = face(1, k + 2);
     }
 }
 
 // 16,383 faces round the vertex 0 in an order in which parents make long ways: with faces x, r and y by turns, first every r
 // backwards, then every y, then every x. A last face stands apart.
-fn fill_fan(list: &mut [i32])
-    requires { length list.old ≡ max_entries }
-{
+fn fill_fan(faces: &mut [[i32; 4]; FACES]) {
+    // kept: the index, since each turn puts three faces far apart.
     for k in 0..5461 {
         let at = 3 * k;
-        put_face(list, 4 * (5460 - k), at + 2, at + 3);
-        put_face(list, 4 * (5461 + k), at + 3, at + 4);
-        put_face(list, 4 * (10922 + k), at + 1, at + 2);
+        faces[5460 - k] = face(at + 2, at + 3);
+        faces[5461 + k] = face(at + 3, at + 4);
+        faces[10922 + k] = face(at + 1, at + 2);
     }
-    put_face(list, LAST_FACE, 16390, 16391);
+    faces[FACES - 1] = face(16390, 16391);
 }
 
 // Cuts a list of 65,536 entries, and prints the seven numbers, the first entries and how many words of work were kept.
@@ -140,18 +120,32 @@ fn show_large(
     print_answer(rt, cut::cut(list, n, new_list, map, work))?;
     print_first(rt, new_list, 20)?;
     print_first(rt, map, 20)?;
-    print_number(rt, count_sevens(work), b"\n")
+    println!(rt; "{}", count_sevens(work))
 }
 
 fn large(rt: &impl Print) -> io::Result<()> {
-    let mut list = [-1i32; LIMIT];
+    let mut faces = [[-1i32; 4]; FACES];
     let mut new_list = [7i32; LIMIT];
     let mut map = [7i32; LIMIT];
     let mut work = [7u32; 3 * LIMIT];
-    fill_book(&mut list);
-    show_large(rt, &list, 16386, &mut new_list, &mut map, &mut work)?;
-    fill_fan(&mut list);
-    show_large(rt, &list, 16392, &mut new_list, &mut map, &mut work)
+    fill_book(&mut faces);
+    show_large(
+        rt,
+        faces.as_flattened(),
+        16386,
+        &mut new_list,
+        &mut map,
+        &mut work,
+    )?;
+    fill_fan(&mut faces);
+    show_large(
+        rt,
+        faces.as_flattened(),
+        16392,
+        &mut new_list,
+        &mut map,
+        &mut work,
+    )
 }
 
 fn accepted(rt: &impl Print) -> io::Result<()> {

@@ -19,8 +19,8 @@ use Rattle.text.specs.Tokens.{tokens}
 use Rattle.text.specs.Reading.{read_of, read_into, room_of, refused, accepted}
 use Rattle.text.specs.Faults.{Eleven, Twelve, Thirteen, Whole}
 use Rattle.text.specs.Writing.{written, write_of, write_into, refused_write, accepted_write}
-use Rattle.text.specs.declared.ReadAnswer.{ReadAnswer}
-use Rattle.text.specs.declared.WriteAnswer.{WriteAnswer}
+use Rattle.text.specs.Reading.{ReadAnswer}
+use Rattle.text.specs.Writing.{WriteAnswer}
 use Rattle.text.proofs.Exactly as Exactly
 use Rattle.text.proofs.Exactly.{Verdict, by_eleven, by_twelve, by_thirteen, by_none}
 use Rattle.text.proofs.Whole.{into_refused}

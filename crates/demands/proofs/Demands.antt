@@ -9,8 +9,7 @@ use native.Mathlib.Omega.{arith}
 use lib.IntN.{ℤ, pos}
 use lib.ListN.{length, get_or}
 use Rattle.list.specs.Faces.{corners, runs}
-use Rattle.list.specs.Check.{Valid}
-use Rattle.list.specs.declared.CheckAnswer.{CheckAnswer}
+use Rattle.list.specs.Check.{CheckAnswer, Valid}
 use Rattle.list.proofs.Given.{accepted_exactly_when, accepted_counts}
 use Rattle.list.proofs.Checking.{faces_long}
 use Rattle.list.specs.Limits.{max_entries}

@@ -15,10 +15,10 @@ use Rattle.list.specs.Check.{Valid, check_of}
 use Rattle.list.proofs.Given.{code_row, row_code, accepted_exactly_when}
 use Rattle.edges.specs.Table.{edge_of, edge_answer, is_pair}
 use Rattle.edges.specs.Uses.{faces_on}
-use Rattle.edges.specs.declared.EdgeAnswer.{EdgeAnswer}
+use Rattle.edges.specs.Table.{EdgeAnswer}
 use Rattle.cut.specs.Cut.{words_needed, cut_of, cut_refused, cut_accepted, classes_answer, classes_refused, cut_list, cut_map, cut_work, classes_bytes, classes_work}
-use Rattle.cut.specs.declared.CutAnswer.{CutAnswer}
-use Rattle.cut.specs.declared.ClassesAnswer.{ClassesAnswer}
+use Rattle.cut.specs.Cut.{CutAnswer}
+use Rattle.cut.specs.Cut.{ClassesAnswer}
 use Rattle.demands.specs.Refused.{ListRow, Pair, EdgeRow, ClassesRow, CutRow}
 
 pair_said : (n : ℕ) (a b : ℤ) → is_pair n a b ≡ true → Pair n a b

@@ -12,7 +12,7 @@ use Rattle.groups.specs.Groups.{group_labels, fan_labels, links, labels_of}
 use Rattle.renumber.specs.Renumber.{new_list_of, new_numbers, map_of}
 use Rattle.fans.specs.Classes.{classes_of, class_of, fans_at, singular_vertex_count}
 use Rattle.cut.specs.Cut.{cut_of, cut_list, cut_map}
-use Rattle.cut.specs.declared.CutAnswer.{CutAnswer}
+use Rattle.cut.specs.Cut.{CutAnswer}
 use Rattle.demands.specs.Wrong.{Outcome, Program, asked, Meets, refuses_all, fixed_answer, writes_nothing, plain_copy, vertex_per_corner, first_edge_only, made_up_counts, tears_singular, copies_at_singular, opposite_only, one_endpoint, first_two_of_three}
 
 -- a program's outcome with buffers of the length that a list l needs at most, each entry of them 5

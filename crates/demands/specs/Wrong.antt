@@ -17,7 +17,7 @@ use Rattle.renumber.specs.Renumber.{new_list_of, new_vertices, map_of}
 use Rattle.fans.specs.Classes.{ends_edge, singular_vertex_count}
 use Rattle.list.specs.Written.{over}
 use Rattle.cut.specs.Cut.{cut_of, cut_list, cut_map, cut_refused}
-use Rattle.cut.specs.declared.CutAnswer.{CutAnswer}
+use Rattle.cut.specs.Cut.{CutAnswer}
 
 pub record Outcome : Type 0 where
   pub answer : CutAnswer

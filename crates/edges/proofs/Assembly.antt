@@ -7,9 +7,11 @@ use native.Mathlib.Omega.{arith}
 use native.Mathlib.Nat.{zero-add}
 use borrow.Author.Tests.{eq-eqb, ne_eqb}
 use lib.Dec.{eqb}
+use borrow.Rule.Slice.PartMut.{put_mid, post_of}
 use lib.IntN.{ℤ}
-use lib.ListN.{length, get_or, replicate, length-map, length-replicate, get_or-replicate, get_or-map}
-use lib.Seq.{take_all, ext_get_or}
+use lib.ListN.{length, get_or, take, drop, replicate, length-append, length-map, length-replicate, length-take, length-drop, get_or-replicate, get_or-map}
+use lib.Seq.{take_all, ext_get_or, drop-drop, length-take-le}
+use Rattle.std.proofs.lemmas.List.{take_at, drop_at}
 use Rattle.list.specs.Limits.{max_vertices}
 use Rattle.list.specs.Check.{Valid}
 use Rattle.order.specs.Choose.{choose, count, up_from}
@@ -88,6 +90,29 @@ four_parts c w h =
     let three : part 0 (3 * c) w ≡ part 0 (2 * c) w ++ part (2 * c) c w = rw e₃ (part_add 0 (2 * c) c w ∙ rw zero-add) in
     let four : part 0 (4 * c) w ≡ part 0 (3 * c) w ++ part (3 * c) c w = rw e₄ (part_add 0 (3 * c) c w ∙ rw zero-add) in
     sym (take_all (4 * c) w (omega arith)) ∙ four ∙ rw (three, two)
+
+-- the work w begun: the keys stand in its first block of c words, the corners' words in its fourth
+pub record Begun (l : List ℤ) (c : ℕ) (w : List ℕ) : Type 0 where
+  pub long : length w ≡ 4 * c
+  pub keys : part 0 c w ≡ map key_of (uses l)
+  pub words : part (3 * c) c w ≡ corner_words (uses l)
+
+-- written into the parts that the work is split into
+pub begun : (l : List ℤ) (c k : ℕ) (ks rest ws : List ℕ) → length (uses l) ≡ c → length rest ≡ 3 * c → k ≡ c → ks ≡ map key_of (uses l) → ws ≡ corner_words (uses l) → Begun l c (ks ++ put_mid (2 * c) k rest ws)
+begun l c k ks rest ws u r e keys words =
+    let kl : length ks ≡ c = ap length keys ∙ length-map (uses l) key_of ∙ u in
+    let wl : length ws ≡ c = ap length words ∙ length-map (uses l) corner_of ∙ u in
+    let w = ks ++ put_mid (2 * c) k rest ws in
+    let behind = ws ++ post_of (2 * c) k rest in
+    let past : 3 * c ≡ c + 2 * c = omega arith in
+    record {
+      long = rw e (simp (length-append, length-take, length-drop) (omega arith));
+      keys = take_at ks (put_mid (2 * c) k rest ws) c kl ∙ keys;
+      words =
+          ap (λ (m : ℕ). part m c w) past ∙
+          ap (take c) (sym (drop-drop (2 * c) c w) ∙ ap (drop (2 * c)) (drop_at ks (put_mid (2 * c) k rest ws) c kl) ∙ drop_at (take (2 * c) rest) behind (2 * c) (length-take-le (2 * c) rest (omega arith))) ∙
+          take_at ws (post_of (2 * c) k rest) c wl ∙ words;
+    }
 
 -- the four blocks are the table: w₁ has the keys and the corners' words, w₂ the mates beside them, w₃ the words taken apart
 module _ (l : List ℤ) (n c : ℕ) (v : Valid l n) (u : length (uses l) ≡ c) (w₁ w₂ w₃ : List ℕ) (keys : part 0 c w₁ ≡ map key_of (uses l)) where

@@ -2,8 +2,8 @@ pub mod Uses
 pub mod Faces
 pub mod Mates
 pub mod Table
-pub mod Filling
+pub mod FaceWords
 pub mod Walk
-pub mod Apart
 pub mod Assembly
 pub mod Question
+pub mod Told

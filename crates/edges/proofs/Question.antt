@@ -1,132 +1,95 @@
--- The edge question's tests on its two numbers, and counting the uses of an edge face by face.
-use Prim.Native.Nat.{ℕ, ◌+◌, ◌-◌, ◌≤◌, ◌<◌, ◌^◌}
+-- Counting the uses of an edge: in one face by its pairs of a corner and the next, and face by face.
+use Prim.Native.Nat.{ℕ, suc, ◌+◌, ◌≤◌}
 use mathlib.Core.Path.{◌≡◌, refl, sym, ◌∙◌, ap, ap₂}
-use mathlib.Core.Bool.{Bool, true, false, cond, not, ◌&&◌, true≢false, false≢true}
-use mathlib.Core.List.{List, [], ◌∷◌}
+use mathlib.Core.Bool.{Bool, true, false, cond}
+use mathlib.Core.List.{List, [], ◌∷◌, ◌++◌}
 use native.Mathlib.Omega.{arith}
-use native.Mathlib.Numerals.{add-one}
-use borrow.Author.Tests.{eq-eqb, ne_eqb, eqb-true, ltb-true}
-use lib.Dec.{eqb, ltb}
-use lib.IntN.{ℤ, pos, negsuc, nat_abs}
-use lib.ListN.{length, get_or, take, drop, length-append}
-use lib.Seq.{drop-cons}
-use lib.Signed.{mag, lt_z}
-use mir.Syntax.{w32}
-use mir.Val.{of_z, to_z}
-use mir.ValLaws.{to_z-of_z}
-use Rattle.list.specs.Faces.{runs, num, vertices}
-use Rattle.list.specs.Check.{check_of}
-use Rattle.list.specs.declared.Cursor.{Cursor}
-use Rattle.list.proofs.Runs.{Stepped}
+use lib.IntN.{ℤ}
+use lib.ListN.{length, take, drop, length-append}
+use Rattle.std.proofs.lemmas.List.Sums.{sum_by-cons}
+use lib.Dec.{eqb}
+use Rattle.std.specs.Prelude.{Option, Some, None, Ok, Err}
+use Rattle.std.specs.List.{filter, zip, sum_by}
+use Rattle.list.specs.Faces.{Face, faces, num, vertices}
+use Rattle.list.specs.Check.{check_of, refused}
+use Rattle.list.specs.Told.{code_of, place_of}
+use Rattle.list.specs.declared.Fault.{Fault}
+use Rattle.list.specs.declared.Fault.TheVariants as Fault·
 use Rattle.list.proofs.Checking.{corners_fit}
 use Rattle.order.specs.Choose.{choose}
-use Rattle.edges.specs.Uses.{Use, uses_of_face, uses_from, uses, is_edge, on_edge, uses_on, faces_on, no_use}
-use Rattle.edges.specs.Table.{is_index, is_pair, edge_answer, edge_of}
+use Rattle.edges.specs.Uses.{Use, uses_to_end, uses_of_face, uses, is_edge, on_edge, uses_on, faces_on}
+use Rattle.edges.specs.Table.{is_pair, pair_of, edge_answer, edge_of}
+use Rattle.edges.specs.Told.{edge_told}
+use Rattle.edges.specs.declared.EdgeRefusal.TheVariants as Refusal·
 use Rattle.order.proofs.Lists.{choose-append, choose_few}
 use Rattle.edges.proofs.Uses.{uses_long}
-use Rattle.edges.proofs.Faces.{is_edge_lem, edge_is, face_anywhere}
+use Rattle.edges.proofs.Faces.{face_anywhere}
+use Rattle.edges.proofs.Walk.{uses_left, left_all}
 
--- two tests that hold together are one
-same_test : (p q : Bool) → (p ≡ true → q ≡ true) → (q ≡ true → p ≡ true) → p ≡ q
-same_test true q f g = sym (f refl)
-same_test false true f g = g refl
-same_test false false f g = refl
+-- one test, on a pair and on a use
+one_more : (t : Bool) (ps : List (ℤ × ℤ)) (us : List Use) (p : ℤ × ℤ) (u : Use) → length ps ≡ length us → length (cond t (p ∷ ps) ps) ≡ length (cond t (u ∷ us) us)
+one_more true ps us p u e = ap suc e
+one_more false ps us p u e = e
 
-module _ (v w a b : ℕ) where
-  pub edge_forth : v ≡ a → eqb w b ≡ is_edge v w a b
-  edge_forth e =
-      same_test (eqb w b) (is_edge v w a b)
-      (λ t. let q = eqb-true w b t in edge_is v w a b (omega arith) (omega arith))
-      (λ t. let q = is_edge_lem v w a b t in eq-eqb w b (omega arith))
+-- the corners of a face paired with the next ones are its uses, so as many are on an edge
 
-  pub edge_back : v ≡ b → eqb w a ≡ is_edge v w a b
-  edge_back e =
-      same_test (eqb w a) (is_edge v w a b)
-      (λ t. let q = eqb-true w a t in edge_is v w a b (omega arith) (omega arith))
-      (λ t. let q = is_edge_lem v w a b t in eq-eqb w a (omega arith))
+pairs_to_end : (a b c₀ c : ℕ) (x y : ℤ) (xs : List ℤ) → length (filter (λ p. is_edge (num p.0) (num p.1) a b) (zip (x ∷ xs) (xs ++ y ∷ []))) ≡ length (choose (on_edge a b) (uses_to_end c₀ (num y) c (num x) (vertices xs)))
+pairs_to_end a b c₀ c x y [] =
+    one_more (is_edge (num x) (num y) a b) [] [] (x, y) (record { corner = c; next = c₀; from = num x; to = num y }) refl
+pairs_to_end a b c₀ c x y (z ∷ zs) =
+    one_more (is_edge (num x) (num z) a b) (filter (λ p. is_edge (num p.0) (num p.1) a b) (zip (z ∷ zs) (zs ++ y ∷ []))) (choose (on_edge a b) (uses_to_end c₀ (num y) (c + 1) (num z) (vertices zs))) (x, z) (record { corner = c; next = c + 1; from = num x; to = num z })
+    (pairs_to_end a b c₀ (c + 1) z y zs)
 
-  pub edge_not : (v ≡ a → ⊥) → (v ≡ b → ⊥) → false ≡ is_edge v w a b
-  edge_not d e = same_test false (is_edge v w a b) (λ t. absurd (false≢true t)) (λ t. let q = is_edge_lem v w a b t in absurd (omega arith))
+pub pairs_on : (a b c : ℕ) (r : List ℤ) → length (filter (λ p. is_edge (num p.0) (num p.1) a b) (zip r (drop 1 r ++ take 1 r))) ≡ length (uses_on (uses_of_face c (vertices r)) a b)
+pairs_on a b c [] = refl
+pairs_on a b c (x ∷ xs) = pairs_to_end a b c c x x xs
 
--- the tests on the bits of a signed number z that fits
-module _ (n : ℕ) (z : ℤ) (f : mag z < 2 ^ 31) where
-  pub index_negative : lt_z (to_z w32 (of_z w32 z)) (pos 0) ≡ true → false ≡ is_index n z
-  index_negative = rw (to_z-of_z w32 z (record { sfits = f })) (go z)
-    where
-      go : (z : ℤ) → lt_z z (pos 0) ≡ true → false ≡ is_index n z
-      go (pos k) h = absurd (omega (arith, ltb-true k 0 h))
-      go (negsuc k) h = refl
+-- the uses of an edge in each face, from its first corner on
+abbrev pub face_uses : ℕ → ℕ → Face → ℕ
+face_uses a b f = length (uses_on (uses_of_face 0 (vertices f.entries)) a b)
 
-  pub index_natural : lt_z (to_z w32 (of_z w32 z)) (pos 0) ≡ false → ltb (nat_abs (to_z w32 (of_z w32 z))) n ≡ is_index n z
-  index_natural = rw (to_z-of_z w32 z (record { sfits = f })) (go z)
-    where
-      go : (z : ℤ) → lt_z z (pos 0) ≡ false → ltb (nat_abs z) n ≡ is_index n z
-      go (pos k) h = refl
-      go (negsuc k) h = absurd (true≢false h)
+uses_summed : (a b at : ℕ) (fs : List Face) → sum_by (face_uses a b) fs ≡ length (uses_on (uses_left at fs) a b)
+uses_summed a b at [] = refl
+uses_summed a b at (f ∷ fs) =
+    sum_by-cons (face_uses a b) f fs ∙ ap₂ (λ (m n : ℕ). m + n) (face_anywhere a b 0 at (vertices f.entries)) (uses_summed a b (at + length f.entries) fs) ∙
+    sym (ap length (choose-append (on_edge a b) (uses_of_face at (vertices f.entries)) (uses_left (at + length f.entries) fs)) ∙ length-append (uses_on (uses_of_face at (vertices f.entries)) a b) (uses_on (uses_left (at + length f.entries) fs) a b))
 
-module _ (n : ℕ) (a b : ℤ) where
-  pub pair_first : is_index n a ≡ false → false ≡ is_pair n a b
-  pair_first e = ap (λ (s : Bool). s && is_index n b && not (eqb (num a) (num b))) (sym e)
+pub faces_summed : (l : List ℤ) (a b : ℕ) → sum_by (face_uses a b) (faces l) ≡ faces_on l a b
+faces_summed l a b = uses_summed a b 0 (faces l) ∙ ap (λ (us : List Use). length (uses_on us a b)) (left_all l)
 
-  pub pair_second : is_index n a ≡ true → is_index n b ≡ false → false ≡ is_pair n a b
-  pair_second e f = ap₂ (λ (s t : Bool). s && t && not (eqb (num a) (num b))) (sym e) (sym f)
+pub faces_few : (l : List ℤ) (a b : ℕ) → faces_on l a b ≤ length l
+faces_few l a b = omega (arith, choose_few (on_edge a b) (uses l), uses_long l, corners_fit l)
 
-  pub pair_third : is_index n a ≡ true → is_index n b ≡ true → not (eqb (num a) (num b)) ≡ is_pair n a b
-  pair_third e f = ap₂ (λ (s t : Bool). s && t && not (eqb (num a) (num b))) (sym e) (sym f)
-
--- counting the elements that a test holds of, from the front: what is counted and what is left make up all
-module _ (p : Use → Bool) (us : List Use) (i k m : ℕ) (h : i < length us) (e : k + length (choose p (drop i us)) ≡ m) where
-  left_by : choose p (drop i us) ≡ cond (p (get_or us i no_use)) (get_or us i no_use ∷ choose p (drop (i + 1) us)) (choose p (drop (i + 1) us))
-  left_by = rw (drop-cons us i no_use h, add-one)
-
-  pub counted_one : p (get_or us i no_use) ≡ true → k + 1 + length (choose p (drop (i + 1) us)) ≡ m
-  counted_one t =
-      let s : choose p (drop i us) ≡ get_or us i no_use ∷ choose p (drop (i + 1) us) = left_by ∙ rw t in
-      omega (arith, ap length s)
-
-  pub counted_none : p (get_or us i no_use) ≡ false → k + length (choose p (drop (i + 1) us)) ≡ m
-  counted_none t =
-      let s : choose p (drop i us) ≡ choose p (drop (i + 1) us) = left_by ∙ rw t in
-      omega (arith, ap length s)
-
--- face by face: the faces counted and those left make up all on the edge
-
-runs_anywhere : (a b c d : ℕ) (rs : List (List ℤ)) → length (uses_on (uses_from c rs) a b) ≡ length (uses_on (uses_from d rs) a b)
-runs_anywhere a b c d [] = refl
-runs_anywhere a b c d (r ∷ rs) =
-    ap length (choose-append (on_edge a b) (uses_of_face c (vertices r)) (uses_from (c + length r) rs)) ∙ length-append (uses_on (uses_of_face c (vertices r)) a b) (uses_on (uses_from (c + length r) rs) a b) ∙
-    rw (face_anywhere a b c d (vertices r), runs_anywhere a b (c + length r) (d + length r) rs)
-    (sym (ap length (choose-append (on_edge a b) (uses_of_face d (vertices r)) (uses_from (d + length r) rs)) ∙ length-append (uses_on (uses_of_face d (vertices r)) a b) (uses_on (uses_from (d + length r) rs) a b)))
-
-abbrev pub Asked : List ℤ → ℕ → ℕ → ℕ → ℕ → Type 0
-Asked l a b i k = k + length (uses_on (uses_from 0 (runs (drop i l))) a b) ≡ faces_on l a b
-
-module _ (l : List ℤ) (a b i : ℕ) where
-  pub asked_next : (k s e : ℕ) (c : Cursor) → Stepped l i s e c → Asked l a b i k → Asked l a b c.at (k + length (uses_on (uses_of_face 0 (vertices (take (e - s) (drop s l)))) a b))
-  asked_next k s e c t h =
-      let r = take (e - s) (drop s l) in
-      let rs = runs (drop c.at l) in
-      let split : length (uses_on (uses_from 0 (runs (drop i l))) a b) ≡ length (uses_on (uses_of_face 0 (vertices r)) a b) + length (uses_on (uses_from (0 + length r) rs) a b) = ap (λ (xs : List (List ℤ)). length (uses_on (uses_from 0 xs) a b)) t.split ∙ ap length (choose-append (on_edge a b) (uses_of_face 0 (vertices r)) (uses_from (0 + length r) rs)) ∙ length-append (uses_on (uses_of_face 0 (vertices r)) a b) (uses_on (uses_from (0 + length r) rs) a b) in
-      omega (arith, h, split, runs_anywhere a b (0 + length r) 0 rs)
-
-  pub asked_done : (k : ℕ) → drop i l ≡ [] → Asked l a b i k → k ≡ faces_on l a b
-  asked_done k d h =
-      let z : length (uses_on (uses_from 0 (runs (drop i l))) a b) ≡ 0 = rw d in
-      omega (arith, h)
-
-  pub asked_few : (k : ℕ) → Asked l a b i k → k ≤ length l
-  asked_few k h = omega (arith, h, choose_few (on_edge a b) (uses l), uses_long l, corners_fit l)
-
--- the answer: the check's refusal, then that of the pair, then the count
+-- the answers: the check's refusal, then that of the pair, then the count
 module _ (l : List ℤ) (n : ℕ) (a b : ℤ) where
-  pub edge_refused : ((check_of l n).code ≡ 0 → ⊥) → edge_answer (check_of l n).code (check_of l n).place 0 ≡ edge_of l n a b
+  pub edge_refused : (f : Fault) → refused (code_of f) (place_of f) ≡ check_of l n → edge_told (Err (Refusal·.Invalid f)) ≡ edge_of l n a b
   unfolding edge_of
-  edge_refused h = rw (ne_eqb (check_of l n).code 0 h)
+  edge_refused f e = rw (← e) (go f)
+    where
+      go : (f : Fault) → edge_told (Err (Refusal·.Invalid f)) ≡ cond (eqb (code_of f) 0) (cond (is_pair n a b) (edge_answer 0 0 (faces_on l (num a) (num b))) (edge_answer 10 0 0)) (edge_answer (code_of f) (place_of f) 0)
+      go Fault·.TooManyEntries = refl
+      go Fault·.TooManyVertices = refl
+      go (Fault·.Outside place) = refl
+      go (Fault·.Short place) = refl
+      go (Fault·.Repeated place) = refl
 
-  pub edge_no_pair : (check_of l n).code ≡ 0 → is_pair n a b ≡ false → edge_answer 10 0 0 ≡ edge_of l n a b
-  unfolding edge_of
-  edge_no_pair e f = rw (eq-eqb (check_of l n).code 0 e, f)
+  module _ (e : (check_of l n).code ≡ 0) where
+    pub edge_paired : (b' : Bool) → is_pair n a b ≡ b' → cond b' (edge_answer 0 0 (faces_on l (num a) (num b))) (edge_answer 10 0 0) ≡ edge_of l n a b
+    unfolding edge_of
+    edge_paired b' q = rw (e, q)
 
-  pub edge_counted : (check_of l n).code ≡ 0 → is_pair n a b ≡ true → edge_answer 0 0 (faces_on l (num a) (num b)) ≡ edge_of l n a b
-  unfolding edge_of
-  edge_counted e f = rw (eq-eqb (check_of l n).code 0 e, f)
+    pub edge_no_pair : pair_of n a b ≡ None → edge_told (Err Refusal·.NotAPair) ≡ edge_of l n a b
+    edge_no_pair = go (is_pair n a b) refl
+      where
+        go : (t : Bool) → is_pair n a b ≡ t → cond {A = Option (ℕ × ℕ)} t (Some (num a, num b)) None ≡ None → edge_told (Err Refusal·.NotAPair) ≡ edge_of l n a b
+        go true q h = cc
+        go false q h = edge_paired false q
+
+    pub edge_counted : (v w : ℕ) → pair_of n a b ≡ Some (v, w) → edge_told (Ok (faces_on l v w)) ≡ edge_of l n a b
+    edge_counted v w = go (is_pair n a b) refl
+      where
+        go : (t : Bool) → is_pair n a b ≡ t → cond {A = Option (ℕ × ℕ)} t (Some (num a, num b)) None ≡ Some (v, w) → edge_told (Ok (faces_on l v w)) ≡ edge_of l n a b
+        go true q h =
+            let same : ◌≡◌ {A = ℕ × ℕ} (v, w) (num a, num b) = cc in
+            ap (λ (p : ℕ × ℕ). edge_told (Ok (faces_on l p.0 p.1))) same ∙ edge_paired true q
+        go false q h = cc

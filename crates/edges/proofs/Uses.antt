@@ -10,7 +10,7 @@ use mathlib.Core.List.{List, [], ◌∷◌, ◌++◌}
 use native.Mathlib.Omega.{arith}
 use native.Mathlib.Nat.{add-zero, add-suc, suc-add, zero-add}
 use native.Mathlib.Numerals.{add-one}
-use borrow.Author.Tests.{ne_eqb, eqb-false, ltb-true, ltb-false}
+use borrow.Author.Tests.{eqb-false, ltb-true, ltb-false}
 use lib.Dec.{eqb, ltb, eqb-zero-suc, eqb-suc-suc}
 use lib.IntN.{ℤ, pos}
 use lib.ListN.{length, get_or, length-append, length-map, get_or-append, get_or-map}
@@ -117,9 +117,6 @@ next_inside m i h = go (eqb (suc i) m) refl
     go : (b : Bool) → eqb (suc i) m ≡ b → cond b 0 (suc i) < m
     go true e = omega arith
     go false e = omega (arith, eqb-false (suc i) m e)
-
-pub next_later : (m i : ℕ) → i + 1 < m → next_in m i ≡ i + 1
-next_later m i h = rw (ne_eqb (suc i) m (omega arith), add-one i)
 
 -- the next corner of a use is the corner of the use that starts where it ends: uses us that start with corner c
 pub record Follows (c : ℕ) (us : List Use) (i : ℕ) : Type 0 where

@@ -1,35 +1,45 @@
 -- Going through a list face by face: what is passed and what is left always make up the uses of the list.
 --
---   Walking n l i at       the faces from position i of l on are valid, and their first corner is `at`
---   Written g b l i at w   the words that g gives of the uses before corner `at` stand in w from position b on
-use Prim.Native.Nat.{ℕ, suc, ◌+◌, ◌*◌, ◌-◌, ◌≤◌, ◌<◌}
-use mathlib.Core.Path.{◌≡◌, sym, ◌∙◌, ap}
-use mathlib.Core.List.{List, [], ◌++◌, map, append_assoc, append-nil}
-use mathlib.Core.Logic.{inl, inr}
+--   uses_left at fs           the uses of the faces fs, whose first corner is `at`
+--   Wording l at fs ks ws     the faces fs of l are left, and their first corner is `at`: before it the uses passed have their keys
+--                             in ks and their corners' words in ws
+use Prim.Native.Nat.{ℕ, suc, ◌+◌, ◌≤◌, ◌<◌}
+use mathlib.Core.Path.{◌≡◌, refl, sym, ◌∙◌, ap}
+use mathlib.Core.List.{List, [], ◌∷◌, ◌++◌, map, append_assoc, append-nil}
 use native.Mathlib.Omega.{arith}
-use native.Mathlib.Nat.{zero-add}
+use borrow.Rule.Slice.PartMut.{put_mid}
 use lib.IntN.{ℤ}
-use lib.ListN.{length, get_or, take, drop, length-append}
+use lib.ListN.{length, get_or, take, length-append}
+use lib.Seq.{take_all}
+use Rattle.std.proofs.lemmas.Slice.{take-put_mid}
 use Rattle.list.specs.Limits.{max_entries, max_vertices}
-use Rattle.list.specs.Faces.{runs, vertices}
+use Rattle.list.specs.Faces.{Face, faces, faces_from, runs, vertices}
 use Rattle.list.specs.Check.{ValidFace, Valid}
-use Rattle.list.specs.declared.Cursor.{Cursor}
-use Rattle.list.proofs.Runs.{Stepped}
 use Rattle.list.proofs.Repeats.{vertices_long}
 use Rattle.list.proofs.Checking.{corners_fit}
-use Rattle.order.specs.Sort.{part}
+use Rattle.order.specs.Choose.{All}
 use Rattle.order.proofs.Lists.{map-append}
-use Rattle.order.proofs.Parts.{part_add, kept_part}
 use Rattle.edges.specs.Uses.{Use, uses_of_face, uses_from, uses}
-use Rattle.edges.specs.Words.{key_of, corner_of, FaceWritten}
+use Rattle.edges.specs.Words.{key_of, corner_of, corner_words}
 use Rattle.edges.proofs.Uses.{uses_long, uses_face_long}
 
-pub record Walking (n : ℕ) (l : List ℤ) (i at : ℕ) : Type 0 where
-  pub total : at + length (uses_from at (runs (drop i l))) ≡ length (uses l)
-  pub valid : (k : ℕ) → k < length (runs (drop i l)) → ValidFace n (get_or (runs (drop i l)) k [])
+abbrev pub uses_left : ℕ → List Face → List Use
+uses_left at [] = []
+uses_left at (f ∷ fs) = uses_of_face at (vertices f.entries) ++ uses_left (at + length f.entries) fs
 
-abbrev pub Written : (Use → ℕ) → ℕ → List ℤ → ℕ → ℕ → List ℕ → Type 0
-Written g b l i at w = part b at w ++ map g (uses_from at (runs (drop i l))) ≡ map g (uses l)
+left_from : (at s : ℕ) (rs : List (List ℤ)) → uses_left at (faces_from s rs) ≡ uses_from at rs
+left_from at s [] = refl
+left_from at s (r ∷ rs) = ap (λ (us : List Use). uses_of_face at (vertices r) ++ us) (left_from (at + length r) (s + length r + 1) rs)
+
+pub left_all : (l : List ℤ) → uses_left 0 (faces l) ≡ uses l
+left_all l = left_from 0 0 (runs l)
+
+abbrev pub ValidIn : ℕ → Face → Type 0
+ValidIn n f = ValidFace n f.entries
+
+valid_from : (n s : ℕ) (rs : List (List ℤ)) → ((k : ℕ) → k < length rs → ValidFace n (get_or rs k [])) → All (ValidIn n) (faces_from s rs)
+valid_from n s [] h = tt
+valid_from n s (r ∷ rs) h = (h 0 (omega arith), valid_from n (s + length r + 1) rs (λ k q. h (suc k) (omega arith)))
 
 -- a vertex count may be taken larger
 pub valid_wider : (l : List ℤ) (n : ℕ) → Valid l n → Valid l max_vertices
@@ -46,82 +56,69 @@ valid_wider l n v =
           };
     }
 
-pub walking_start : (n : ℕ) (l : List ℤ) (i : ℕ) → i ≡ 0 → Valid l n → Walking n l i 0
-walking_start n l i e v = rw e (record { total = zero-add (length (uses l)); valid = v.each_face })
-
-pub written_start : (g : Use → ℕ) (b : ℕ) (l : List ℤ) (i : ℕ) (w : List ℕ) → i ≡ 0 → Written g b l i 0 w
-written_start g b l i w e = rw e
-
-module _ (n : ℕ) (l : List ℤ) (i at s e : ℕ) (c : Cursor) (t : Stepped l i s e c) (W : Walking n l i at) where
-  abbrev face : List ℤ
-  face = take (e - s) (drop s l)
-
-  uses_split : uses_from at (runs (drop i l)) ≡ uses_of_face at (vertices face) ++ uses_from (at + (e - s)) (runs (drop c.at l))
-  uses_split = ap (uses_from at) t.split ∙ rw t.long
-
-  split_long : length (uses_from at (runs (drop i l))) ≡ (e - s) + length (uses_from (at + (e - s)) (runs (drop c.at l)))
-  split_long =
-      ap length uses_split ∙ length-append (uses_of_face at (vertices face)) (uses_from (at + (e - s)) (runs (drop c.at l))) ∙
-      rw (uses_face_long at (vertices face) ∙ vertices_long face ∙ t.long)
-
-  pub walking_room : at + (e - s) ≤ length (uses l)
-  walking_room = omega (arith, W.total, split_long)
-
-  pub walking_valid : ValidFace n face
-  walking_valid = (rw t.split at W.valid) 0 (omega arith)
-
-  pub walking_next : Walking n l c.at (at + (e - s))
-  walking_next =
-      record {
-        total = omega (arith, W.total, split_long);
-        valid = λ k h. (rw t.split at W.valid) (suc k) (omega arith);
-      }
-
-  pub written_next : (g : Use → ℕ) (b : ℕ) (w w' : List ℕ) → part b at w' ≡ part b at w → part (b + at) (length face) w' ≡ map g (uses_of_face at (vertices face)) → Written g b l i at w → Written g b l c.at (at + (e - s)) w'
-  written_next g b w w' p q h =
-      let here = uses_of_face at (vertices face) in
-      let rest = uses_from (at + (e - s)) (runs (drop c.at l)) in
-      let grown : part b (at + (e - s)) w' ≡ part b at w ++ map g here = part_add b at (e - s) w' ∙ rw (p, ap (λ (m : ℕ). part (b + at) m w') (sym t.long) ∙ q) in
-      ap (λ (x : List ℕ). x ++ map g rest) grown ∙
-      append_assoc (part b at w) (map g here) (map g rest) ∙
-      ap (λ (x : List ℕ). part b at w ++ x) (sym (ap (map g) uses_split ∙ map-append g here rest)) ∙ h
-
-module _ (n : ℕ) (l : List ℤ) (i at : ℕ) (d : drop i l ≡ []) (W : Walking n l i at) where
-  pub walking_done : at ≡ length (uses l)
-  walking_done =
-      let z : length (uses_from at (runs (drop i l))) ≡ 0 = rw d in
-      omega (arith, W.total)
-
-  pub written_done : (g : Use → ℕ) (b : ℕ) (w : List ℕ) → Written g b l i at w → part b at w ≡ map g (uses l)
-  written_done g b w h = sym (append-nil (part b at w)) ∙ (rw d at h)
-
 pub few_corners : (l : List ℤ) (n : ℕ) → Valid l n → length (uses l) ≤ max_entries
 few_corners l n v = omega (arith, uses_long l, corners_fit l, v.few_entries)
 
--- the keys and the corners' words, in two blocks of c words
+-- the words that g gives of the uses before corner `at` stand in ws, and those of the faces left complete them
+abbrev pub Written : (Use → ℕ) → List ℤ → ℕ → List Face → List ℕ → Type 0
+Written g l at left ws = take at ws ++ map g (uses_left at left) ≡ map g (uses l)
 
-pub record Wording (l : List ℤ) (c i at : ℕ) (w₀ w : List ℕ) : Type 0 where
-  pub walking : Walking max_vertices l i at
-  pub keys : Written key_of 0 l i at w
-  pub words : Written corner_of (3 * c) l i at w
-  pub long : length w ≡ length w₀
+pub record Wording (l : List ℤ) (at : ℕ) (left : List Face) (keys words : List ℕ) : Type 0 where
+  pub total : at + length (uses_left at left) ≡ length (uses l)
+  pub valid : All (ValidIn max_vertices) left
+  pub keys_are : Written key_of l at left keys
+  pub words_are : Written corner_of l at left words
 
-module _ (l : List ℤ) (c i at s e : ℕ) (cur : Cursor) (t : Stepped l i s e cur) (w₀ w w₂ : List ℕ) (O : Wording l c i at w₀ w) (u : length (uses l) ≡ c) (fits : 4 * c ≤ length w₀) where
-  abbrev f : List ℤ
-  f = take (e - s) (drop s l)
+module _ (l : List ℤ) (keys words : List ℕ) where
+  pub wording_start : (left : List Face) → left ≡ faces l → Valid l max_vertices → Wording l 0 left keys words
+  wording_start left e v =
+      rw e
+      (record {
+        total = omega (arith, ap length (left_all l));
+        valid = valid_from max_vertices 0 (runs l) v.each_face;
+        keys_are = ap (map key_of) (left_all l);
+        words_are = ap (map corner_of) (left_all l);
+      })
 
-  pub wording_turn : FaceWritten c at f w w₂ → Wording l c cur.at (at + (e - s)) w₀ w₂
-  wording_turn F =
-      let W = O.walking in
-      let w₁ = F.between in
-      let k₁ = F.keys_kept in
-      let k₂ = F.words_kept in
-      record {
-        walking = walking_next max_vertices l i at s e cur t W;
-        keys = written_next max_vertices l i at s e cur t W key_of 0 w w₂ (kept_part (3 * c + at) (length f) 0 at w₁ w₂ (inl (omega arith)) (omega (arith, room, O.long, k₁.long)) k₂ ∙ kept_part at (length f) 0 at w w₁ (inl (omega arith)) (omega (arith, room, O.long)) k₁) (rw zero-add (kept_part (3 * c + at) (length f) at (length f) w₁ w₂ (inl (omega (arith, room))) (omega (arith, room, O.long, k₁.long)) k₂ ∙ F.keys)) O.keys;
-        words = written_next max_vertices l i at s e cur t W corner_of (3 * c) w w₂ (kept_part (3 * c + at) (length f) (3 * c) at w₁ w₂ (inl (omega arith)) (omega (arith, room, O.long, k₁.long)) k₂ ∙ kept_part at (length f) (3 * c) at w w₁ (inr (omega (arith, room))) (omega (arith, room, O.long)) k₁) F.words O.words;
-        long = k₂.long ∙ k₁.long ∙ O.long;
-      }
-    where
-      room : at + length f ≤ c
-      room = omega (arith, t.long, u, walking_room max_vertices l i at s e cur t O.walking)
+  module _ (at : ℕ) (left : List Face) where
+    pub wording_done : left ≡ [] → Wording l at left keys words → length keys ≡ length (uses l) → length words ≡ length (uses l) → (keys ≡ map key_of (uses l)) × (words ≡ corner_words (uses l))
+    wording_done e w k h =
+        let total : at + 0 ≡ length (uses l) = rw e at w.total in
+        let keys_are : take at keys ++ [] ≡ map key_of (uses l) = rw e at w.keys_are in
+        let words_are : take at words ++ [] ≡ map corner_of (uses l) = rw e at w.words_are in (
+          sym (take_all at keys (omega arith)) ∙ sym (append-nil (take at keys)) ∙ keys_are,
+          sym (take_all at words (omega arith)) ∙ sym (append-nil (take at words)) ∙ words_are,
+        )
+
+    module _ (f : Face) (rest : List Face) (e : left ≡ f ∷ rest) (w : Wording l at left keys words) where
+      abbrev here : List Use
+      here = uses_of_face at (vertices f.entries)
+
+      left_long : length (uses_left at left) ≡ length f.entries + length (uses_left (at + length f.entries) rest)
+      left_long =
+          ap (λ fs. length (uses_left at fs)) e ∙ length-append here (uses_left (at + length f.entries) rest) ∙
+          rw (uses_face_long at (vertices f.entries) ∙ vertices_long f.entries)
+
+      pub wording_room : at + length f.entries ≤ length (uses l)
+      wording_room = omega (arith, w.total, left_long)
+
+      pub wording_valid : ValidFace max_vertices f.entries
+      wording_valid = (rw e at w.valid).0
+
+      written_turn : (g : Use → ℕ) (k : ℕ) (ws new : List ℕ) → at ≤ length ws → new ≡ map g here → length new ≡ length f.entries → Written g l at left ws → Written g l (at + length f.entries) rest (put_mid at k ws new)
+      written_turn g k ws new h q m done =
+          let behind = map g (uses_left (at + length f.entries) rest) in
+          ap (λ xs. xs ++ behind) (take-put_mid at k ws new (at + length f.entries) (omega arith) h ∙ ap (λ xs. take at ws ++ xs) q) ∙
+          append_assoc (take at ws) (map g here) behind ∙
+          ap (λ xs. take at ws ++ xs) (sym (ap (λ fs. map g (uses_left at fs)) e ∙ map-append g here (uses_left (at + length f.entries) rest))) ∙ done
+
+-- the faces passed and the one at hand: their words stand before the corner behind it
+pub wording_turn : (l : List ℤ) (keys words : List ℕ) (at : ℕ) (left : List Face) (f : Face) (rest : List Face) (k : ℕ) (keys' words' : List ℕ) → left ≡ f ∷ rest → Wording l at left keys words → length keys ≡ length (uses l) → length words ≡ length (uses l) → length keys' ≡ length f.entries → length words' ≡ length f.entries → keys' ≡ map key_of (uses_of_face at (vertices f.entries)) → words' ≡ corner_words (uses_of_face at (vertices f.entries)) → Wording l (at + length f.entries) rest (put_mid at k keys keys') (put_mid at k words words')
+wording_turn l keys words at left f rest k keys' words' e w kl wl k'l w'l kq wq =
+    let room = wording_room l keys words at left f rest e w in
+    record {
+      total = omega (arith, w.total, left_long l keys words at left f rest e w);
+      valid = (rw e at w.valid).1;
+      keys_are = written_turn l keys words at left f rest e w key_of k keys keys' (omega (arith, room)) kq k'l w.keys_are;
+      words_are = written_turn l keys words at left f rest e w corner_of k words words' (omega (arith, room)) wq w'l w.words_are;
+    }

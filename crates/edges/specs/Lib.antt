@@ -1,3 +1,4 @@
 pub mod Uses
 pub mod Table
+pub mod Told
 pub mod Words

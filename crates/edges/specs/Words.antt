@@ -1,19 +1,15 @@
--- The key of an edge, a corner's next corner and its vertex in one word, and the passes that write these words and take them apart.
+-- The key of an edge, a corner's next corner and its vertex in one word, and the pass that takes these words apart.
 --
 --   pair_key a b                  the key of the edge between a and b: one number for both vertices, the lower one first
 --   key_of u                       the key of the edge of the use u
 --   corner_word next from         the word of a corner
 --   corner_of u                   the word of the corner that the use u starts at
 --   corner_words us               the words of the corners of the uses us
---   FaceWritten c at r w w'       w' is w with the words of the face r, whose first corner is the corner `at`: the keys are written
---                                 into the first block of c words, then the corners' words into the fourth, and nothing else
 --   TakenApart c w w'             w' has the next corners of w's words in its first block, their vertices in its second, w's third
 --                                 block, and 0 in its fourth
-use Rattle.std.specs.Prelude.{ℕ, ◌+◌, ◌*◌, ◌/◌, ◌%◌, ◌<◌, min, max, ◌≡◌, List, map, ℤ, length, get_or}
+use Rattle.std.specs.Prelude.{ℕ, ◌+◌, ◌*◌, ◌/◌, ◌%◌, ◌<◌, min, max, ◌≡◌, List, map, length, get_or}
 use Rattle.list.specs.Limits.{max_vertices}
-use Rattle.list.specs.Faces.{vertices}
-use Rattle.order.specs.Sort.{part, Kept}
-use Rattle.edges.specs.Uses.{Use, uses_of_face}
+use Rattle.edges.specs.Uses.{Use}
 
 abbrev pub pair_key : ℕ → ℕ → ℕ
 pair_key a b = min a b * max_vertices + max a b
@@ -29,13 +25,6 @@ corner_of u = corner_word u.next u.from
 
 abbrev pub corner_words : List Use → List ℕ
 corner_words us = map corner_of us
-
-pub record FaceWritten (c at : ℕ) (r : List ℤ) (w w' : List ℕ) : Type 0 where
-  pub between : List ℕ
-  pub keys : part at (length r) between ≡ map key_of (uses_of_face at (vertices r))
-  pub keys_kept : Kept at (length r) w between
-  pub words : part (3 * c + at) (length r) w' ≡ corner_words (uses_of_face at (vertices r))
-  pub words_kept : Kept (3 * c + at) (length r) between w'
 
 pub record TakenApart (c : ℕ) (w w' : List ℕ) : Type 0 where
   pub long : length w' ≡ length w

@@ -5,127 +5,103 @@
 ghost use Rattle.std.specs.Prelude.{◌≤◌, length};
 ghost use Rattle.list.specs.Limits.{max_entries};
 
-use std::io;
+use list::{Fault, IndexList, Refusal, ValidList};
+use std::{fmt, io};
 
-const LIMIT: usize = list::IndexList::MAX_ENTRIES;
+const LIMIT: usize = IndexList::MAX_ENTRIES;
 
 // The corners of the longest lists: three of each four entries.
 const CORNERS: usize = LIMIT / 4 * 3;
 
 // Two tetrahedra on one edge.
+// kept: here and in cut_bench, as the other bench lists: a library for them would be longer.
 const BODIES: [i32; 32] = [
     0, 1, 2, -1, 0, 3, 1, -1, 0, 2, 3, -1, 1, 3, 2, -1, 0, 1, 4, -1, 0, 5, 1, -1, 0, 4, 5, -1, 1,
     5, 4, -1,
 ];
 
-#[derive(Drop)]
-pub struct Made {
-    pub code: u32,
-    pub corners: usize,
-    pub singular: usize,
+// How many corners and singular edges a table has.
+#[derive(Clone, Copy)]
+struct Counted {
+    corners: usize,
+    singular: usize,
 }
 
-fn print_number(rt: &impl Print, n: u64, end: &[u8]) -> io::Result<()> {
-    print!(rt; "{n}")?;
-    rt.write_all(end)
+// Why there is no table.
+#[derive(Clone, Copy)]
+enum NoTable {
+    Invalid(Fault),
+    WorkShort,
 }
 
-// The table of a list that the check accepts, in the first words of work; 9 where work is too short.
-fn make(list: &[i32], n: usize, work: &mut [u32]) -> Made {
-    let checked = list::check(list, n);
-    let code = checked.code;
-    let corners = checked.corners;
-    if code != 0 {
-        return Made {
-            code,
-            corners: 0,
-            singular: 0,
-        };
+impl From<Fault> for NoTable {
+    fn from(fault: Fault) -> NoTable {
+        NoTable::Invalid(fault)
     }
-    if work.len() / 4 < corners {
-        return Made {
-            code: 9,
-            corners: 0,
-            singular: 0,
-        };
+}
+
+// The code, and the two counts of a table, or zeros.
+#[derive(Clone, Copy)]
+struct Made(Result<Counted, NoTable>);
+
+impl fmt::Display for Made {
+    fn fmt<W: fmt::Write>(&self, f: &mut fmt::Formatter<W>) -> fmt::Result {
+        match self.0 {
+            Ok(Counted { corners, singular }) => write!(f, "0 {corners} {singular}"),
+            Err(NoTable::Invalid(fault)) => write!(f, "{} 0 0", fault.code()),
+            Err(NoTable::WorkShort) => write!(f, "9 0 0"),
+        }
     }
-    let end = 4 * corners;
-    let singular = edges::edge_table(list, n, &mut work[..end]);
-    Made {
-        code: 0,
-        corners,
+}
+
+// The table of a list that the check accepts, in the first words of work.
+fn make(list: &[i32], n: usize, work: &mut [u32]) -> Result<Counted, NoTable> {
+    let list = ValidList::new(list, n)?;
+    if work.len() / 4 < list.corners {
+        return Err(NoTable::WorkShort);
+    }
+    let words = &mut work[..4 * list.corners];
+    let singular = edges::edge_table(list.entries, list.vertices, words);
+    Ok(Counted {
+        corners: list.corners,
         singular,
-    }
-}
-
-fn print_made(rt: &impl Print, made: Made) -> io::Result<()> {
-    print_number(rt, made.code as u64, b" ")?;
-    print_number(rt, made.corners as u64, b" ")?;
-    print_number(rt, made.singular as u64, b":")
-}
-
-fn print_words(rt: &impl Print, work: &[u32]) -> io::Result<()> {
-    let mut i: usize = 0;
-    while i < work.len() {
-        rt.write_all(b" ")?;
-        print!(rt; "{}", work[i])?;
-        i += 1;
-    }
-    rt.write_all(b"\n")
+    })
 }
 
 // The words of a small table, with two words past the longest that nothing writes.
 fn show(rt: &impl Print, list: &[i32], n: usize) -> io::Result<()> {
     let mut work = [7u32; 98];
-    let made = make(list, n, &mut work);
-    print_made(rt, made)?;
-    print_words(rt, &work)
+    let made = Made(make(list, n, &mut work));
+    print!(rt; "{made}:")?;
+    for word in &work {
+        print!(rt; " {word}")?;
+    }
+    println!(rt)
 }
 
 fn ask(rt: &impl Print, list: &[i32], n: usize, a: i32, b: i32) -> io::Result<()> {
-    let answer = edges::faces_on(list, n, a, b);
-    print_number(rt, answer.code as u64, b" ")?;
-    print_number(rt, answer.place as u64, b" ")?;
-    print_number(rt, answer.faces as u64, b"\n")
-}
-
-// The first vertex of a face: all have vertex 0 in a fan.
-fn first(v: usize, fan: bool) -> usize
-    ensures { result ≤ v }
-{
-    if fan {
-        return 0;
+    match edges::faces_on(list, n, a, b) {
+        Ok(faces) => println!(rt; "0 0 {faces}"),
+        Err(refusal) => println!(rt; "{} {} 0", refusal.code(), refusal.place()),
     }
-    v
 }
 
 // Faces of three vertices in a row, `step` apart, one behind the other, or all round vertex 0.
 fn fill(list: &mut [i32], step: usize, fan: bool)
     requires { (step ≤ 3) × (length list.old ≤ max_entries) }
 {
-    let faces = list.len() / 4;
-    let mut v: usize = 0;
-    let mut k: usize = 0;
-    while k < faces {
-        let at = 4 * k;
-        list[at] = first(v, fan) as i32;
-        list[at + 1] = (v + step) as i32;
-        list[at + 2] = (v + 2 * step) as i32;
-        v += step;
-        k += 1;
+    for (k, face) in list.chunks_exact_mut(4).enumerate() {
+        let v = k * step;
+        face[0] = if fan { 0 } else { v as i32 };
+        face[1] = (v + step) as i32;
+        face[2] = (v + 2 * step) as i32;
     }
 }
 
-fn sum(work: &[u32], from: usize, to: usize) -> u64
-    requires { to ≤ length work.now }
+fn sum(words: &[u32]) -> u64
+    requires { length words.now ≤ max_entries }
 {
-    let mut total: u64 = 0;
-    let mut i = from;
-    while i < to {
-        total = total.wrapping_add(work[i] as u64);
-        i += 1;
-    }
-    total
+    words.iter().map(|word| u64::from(*word)).sum()
 }
 
 // A list at the limit: the four sums of its table's blocks.
@@ -133,14 +109,19 @@ fn show_long(rt: &impl Print, step: usize, fan: bool, n: usize) -> io::Result<()
     requires { step ≤ 3 }
 {
     let mut list = [-1i32; LIMIT];
-    fill(&mut list[..], step, fan);
+    fill(&mut list, step, fan);
     let mut work = [7u32; 4 * CORNERS];
-    let made = make(&list, n, &mut work);
-    print_made(rt, made)?;
-    print_number(rt, sum(&work, 0, CORNERS), b" ")?;
-    print_number(rt, sum(&work, CORNERS, 2 * CORNERS), b" ")?;
-    print_number(rt, sum(&work, 2 * CORNERS, 3 * CORNERS), b" ")?;
-    print_number(rt, sum(&work, 3 * CORNERS, 4 * CORNERS), b"\n")
+    let made = Made(make(&list, n, &mut work));
+    let (nexts, rest) = work.split_at(CORNERS);
+    let (vertices, rest) = rest.split_at(CORNERS);
+    let (mates, zeros) = rest.split_at(CORNERS);
+    println!(rt;
+        "{made}:{} {} {} {}",
+        sum(nexts),
+        sum(vertices),
+        sum(mates),
+        sum(zeros)
+    )
 }
 
 fn tables(rt: &impl Print) -> io::Result<()> {
@@ -156,13 +137,12 @@ fn tables(rt: &impl Print) -> io::Result<()> {
 }
 
 fn questions(rt: &impl Print) -> io::Result<()> {
-    let bodies = BODIES;
-    ask(rt, &bodies, 6, 0, 1)?;
-    ask(rt, &bodies, 6, 2, 0)?;
-    ask(rt, &bodies, 6, 2, 4)?;
-    ask(rt, &bodies, 6, 3, 3)?;
-    ask(rt, &bodies, 6, -1, 0)?;
-    ask(rt, &bodies, 6, 0, 6)?;
+    ask(rt, &BODIES, 6, 0, 1)?;
+    ask(rt, &BODIES, 6, 2, 0)?;
+    ask(rt, &BODIES, 6, 2, 4)?;
+    ask(rt, &BODIES, 6, 3, 3)?;
+    ask(rt, &BODIES, 6, -1, 0)?;
+    ask(rt, &BODIES, 6, 0, 6)?;
     ask(rt, &[0, 1, 2, -1, 0, 3, 0, -1], 4, 1, 1)
 }
 
@@ -171,5 +151,5 @@ fn main(rt: HostRuntime) -> io::Result<()> {
     questions(&rt)?;
     show_long(&rt, 1, false, 16386)?;
     show_long(&rt, 3, false, 49156)?;
-    show_long(&rt, 3, true, list::IndexList::MAX_VERTICES)
+    show_long(&rt, 3, true, IndexList::MAX_VERTICES)
 }

@@ -1,4 +1,3 @@
-pub mod Cleared
 pub mod Marking
 pub mod SingularCount
 pub mod Classing

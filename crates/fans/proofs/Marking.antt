@@ -4,14 +4,13 @@ use mathlib.Core.Path.{◌≡◌, refl, sym, ◌∙◌, ap}
 use mathlib.Core.Bool.{Bool, true, false, cond, ◌&&◌, ◌||◌}
 use mathlib.Core.List.{List}
 use native.Mathlib.Numerals.{add-one}
-use native.Mathlib.Nat.{sub-zero}
 use native.Mathlib.Omega.{arith}
 use borrow.Author.Tests.{eqb-true, eqb-false, eq-eqb, ne_eqb, le-leb, lt-leb}
 use lib.Dec.{eqb}
-use lib.ListN.{length, set, replicate, length-set, get_or-replicate}
+use lib.ListN.{length, set, length-set}
 use lib.Seq.{get_or-set_same, get_or-set_other}
-use Rattle.groups.specs.Forest.{at, VertexWords}
-use Rattle.fans.specs.Marks.{is_root_on, roots_on, fan_mark, touches_at, marks_end, boundary_word, singular_word, raised, finished, final_mark}
+use Rattle.groups.specs.Forest.{at}
+use Rattle.fans.specs.Marks.{VerticesBelow, is_root_on, roots_on, fan_mark, touches_at, marks_end, boundary_word, singular_word, raised, finished, final_mark}
 use Rattle.groups.proofs.Counting.{count_down}
 
 pub at_set : (xs : List ℕ) (a x v : ℕ) → a < length xs → at (set xs a x) v ≡ cond (eqb v a) x (at xs v)
@@ -22,12 +21,12 @@ at_set xs a x v h = go (eqb v a) refl
     go false e = get_or-set_other xs a v x 0 (eqb-false v a e)
 
 -- both ends of the edge at corner e have a mark
-module _ (w : List ℕ) (c n : ℕ) (W : VertexWords w c n) (xs : List ℕ) (size : length xs ≡ n) (e : ℕ) (h : e < c) where
-  pub from_inside : at w (c + e) < length xs
-  from_inside = omega (arith, W.inside e h)
+module _ (w : List ℕ) (c n : ℕ) (W : VerticesBelow w c n) (xs : List ℕ) (size : length xs ≡ n) (e : ℕ) where
+  pub from_inside : e < c → at w (c + e) < length xs
+  from_inside h = omega (arith, W e h)
 
-  pub to_inside : at w (c + at w e) < length xs
-  to_inside = omega (arith, W.inside (at w e) (W.table.nexts e h))
+  pub to_inside : at w e < c → at w (c + at w e) < length xs
+  to_inside h = omega (arith, W (at w e) h)
 
 fan_first : (k : ℕ) → fan_mark k ≡ 0 → fan_mark (suc k) ≡ 1
 fan_first zero e = refl
@@ -48,13 +47,6 @@ pub record FanLoop (w : List ℕ) (c n : ℕ) (xs : List ℕ) (e : ℕ) : Type 0
   pub size : length xs ≡ n
   pub seen : (v : ℕ) → v < n → FanSeen w c xs e v
 
-pub fan_start : (w : List ℕ) (c n : ℕ) (xs : List ℕ) → length xs ≡ n → xs ≡ replicate n 0 → FanLoop w c n xs 0
-fan_start w c n xs s z =
-    record {
-      size = s;
-      seen = λ v h. record { met = 0; mark = rw z (get_or-replicate n v 0 0 h); left = rw (sub-zero c) (omega arith) };
-    }
-
 roots_step : (w : List ℕ) (c v e : ℕ) → e < c → (t : Bool) → is_root_on w c v e ≡ t → roots_on w c v e (c - e) ≡ cond t (suc (roots_on w c v (e + 1) (c - (e + 1)))) (roots_on w c v (e + 1) (c - (e + 1)))
 roots_step w c v e h true q = rw (count_down c e h, add-one e, q)
 roots_step w c v e h false q = rw (count_down c e h, add-one e, q)
@@ -64,7 +56,7 @@ pub record FanTurn (w : List ℕ) (c n : ℕ) (xs : List ℕ) (e : ℕ) : Type 0
   pub first : e ≤ at w (3 * c + e) → at xs (at w (c + e)) ≡ 0 → FanLoop w c n (set xs (at w (c + e)) 1) (e + 1)
   pub again : e ≤ at w (3 * c + e) → (at xs (at w (c + e)) ≡ 0 → ⊥) → FanLoop w c n (set xs (at w (c + e)) 4) (e + 1)
 
-module _ (w : List ℕ) (c n : ℕ) (W : VertexWords w c n) (xs : List ℕ) (e : ℕ) (h : e < c) (L : FanLoop w c n xs e) where
+module _ (w : List ℕ) (c n : ℕ) (W : VerticesBelow w c n) (xs : List ℕ) (e : ℕ) (h : e < c) (L : FanLoop w c n xs e) where
   fan_child : at w (3 * c + e) < e → FanLoop w c n xs (e + 1)
   fan_child p = record { size = L.size; seen = λ v i. same v (L.seen v i) }
     where
@@ -161,12 +153,6 @@ pub record EndLoop (w : List ℕ) (c : ℕ) (xs₀ xs : List ℕ) (e : ℕ) : Ty
   pub size : length xs ≡ length xs₀
   pub left : (v : ℕ) → v < length xs₀ → finished (at xs v) (marks_end (singular_word c) w c v e (c - e)) (marks_end boundary_word w c v e (c - e)) ≡ final_mark w c v (at xs₀ v)
 
-pub end_start : (w : List ℕ) (c : ℕ) (xs : List ℕ) → EndLoop w c xs xs 0
-end_start w c xs = record { size = refl; left = λ v h. rw (sub-zero c) }
-
-pub end_done : (w : List ℕ) (c : ℕ) (xs₀ xs : List ℕ) (e : ℕ) → c ≤ e → EndLoop w c xs₀ xs e → (v : ℕ) → v < length xs₀ → at xs v ≡ final_mark w c v (at xs₀ v)
-end_done w c xs₀ xs e h L v i = let none : c - e ≡ 0 = omega arith in rw none at (L.left v i)
-
 pub ends_step : (kind : ℕ → ℕ → Bool) (w : List ℕ) (c v e : ℕ) → e < c → marks_end kind w c v e (c - e) ≡ ((touches_at w c v e && kind e (at w (2 * c + e))) || marks_end kind w c v (e + 1) (c - (e + 1)))
 ends_step kind w c v e h = rw (count_down c e h, add-one e)
 
@@ -178,7 +164,7 @@ pub record EndTurn (w : List ℕ) (c : ℕ) (xs₀ xs : List ℕ) (e : ℕ) : Ty
   pub singular : at w (2 * c + e) ≡ c → EndLoop w c xs₀ (set (set xs (at w (c + e)) 3) (at w (c + at w e)) 3) (e + 1)
   pub regular : (at w (2 * c + e) ≡ e → ⊥) → (at w (2 * c + e) ≡ c → ⊥) → EndLoop w c xs₀ xs (e + 1)
 
-module _ (w : List ℕ) (c : ℕ) (xs₀ : List ℕ) (W : VertexWords w c (length xs₀)) (xs : List ℕ) (e : ℕ) (h : e < c) (L : EndLoop w c xs₀ xs e) where
+module _ (w : List ℕ) (c : ℕ) (xs₀ : List ℕ) (W : VerticesBelow w c (length xs₀)) (xs : List ℕ) (e : ℕ) (h : e < c) (next : at w e < c) (L : EndLoop w c xs₀ xs e) where
   -- what is left at e, once the kind of its edge is known
   turned : (ys : List ℕ) (s b : Bool) → singular_word c e (at w (2 * c + e)) ≡ s → boundary_word e (at w (2 * c + e)) ≡ b → length ys ≡ length xs → ((v : ℕ) (r t : Bool) → finished (at ys v) r t ≡ finished (at xs v) ((touches_at w c v e && s) || r) ((touches_at w c v e && b) || t)) → EndLoop w c xs₀ ys (e + 1)
   turned ys s b p q n f =
@@ -194,7 +180,7 @@ module _ (w : List ℕ) (c : ℕ) (xs₀ : List ℕ) (W : VertexWords w c (lengt
       let a = at w (c + e) in
       let b = at w (c + at w e) in
       let from = from_inside w c (length xs₀) W xs L.size e h in
-      let to = to_inside w c (length xs₀) W xs L.size e h in
+      let to = to_inside w c (length xs₀) W xs L.size e next in
       record {
         boundary = λ m.
             turned (twice_raised xs a b) false true (ne_eqb (at w (2 * c + e)) c (omega arith)) (eq-eqb (at w (2 * c + e)) e m)

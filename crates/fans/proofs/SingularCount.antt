@@ -7,18 +7,20 @@ use mathlib.Core.List.{List, [], ◌∷◌}
 use native.Mathlib.Numerals.{add-one}
 use native.Mathlib.Nat.{sub-zero}
 use native.Mathlib.Omega.{arith}
-use borrow.Author.Tests.{eqb-true, eq-eqb, ne_eqb, le-leb, lt-leb}
+use borrow.Author.Tests.{eqb-true, eq-eqb, ne_eqb, le-leb, lt-leb, ltb-true, ltb-false}
 use lib.Dec.{eqb}
+use mir.Val.{bool_byte}
+use Rattle.std.proofs.Common.{nat_lt}
 use lib.IntN.{ℤ, pos}
-use lib.ListN.{length, get_or, set, drop, replicate, length-set, get_or-replicate, drop_of_length-le}
+use lib.ListN.{length, get_or, set, drop, replicate, length-set, get_or-replicate}
 use lib.Seq.{drop-cons}
 use Rattle.list.specs.Faces.{num, vertices}
 use Rattle.order.specs.Choose.{choose, count}
 use Rattle.order.proofs.Blocks.{bit}
 use Rattle.fans.specs.Classes.{is_singular_class}
-use Rattle.groups.specs.Forest.{at, VertexWords}
-use Rattle.fans.specs.Marks.{touches_at, marks_end, singular_word, fan_mark, finished}
-use Rattle.fans.specs.Singular.{is_singular_mark, fan_met, second_fan, after_fans, MadeSingular, EndsCounted, FansCounted}
+use Rattle.groups.specs.Forest.{at}
+use Rattle.fans.specs.Marks.{VerticesBelow, touches_at, marks_end, singular_word, fan_mark, finished}
+use Rattle.fans.specs.Singular.{is_singular_mark, fan_met, second_fan, after_fans, MadeSingular, EndsCounted}
 use Rattle.fans.proofs.Marking.{at_set, from_inside, to_inside, both_set, ends_step}
 
 -- what a store does to a count
@@ -49,15 +51,22 @@ module _ (xs : List ℕ) (v : ℕ) (h : v < length xs) where
   stored : count is_singular_mark (set xs v 2) + bit (is_singular_mark (at xs v)) ≡ count is_singular_mark xs + 1
   stored = count_set is_singular_mark xs v 2 h
 
-  pub made_before : 2 ≤ at xs v → MadeSingular xs v (set xs v 2) 0
-  made_before q =
-      let s : count is_singular_mark (set xs v 2) + 1 ≡ count is_singular_mark xs + 1 = rw (le-leb 2 (at xs v) q) at stored in
-      record { marked = refl; few = omega arith; counted = omega arith }
+  -- it was not where its mark was below 2
+  pub made : MadeSingular xs v (set xs v 2) (cond (nat_lt (at xs v) 2) 1 0)
+  made = go (nat_lt (at xs v) 2) refl
+    where
+      go : (t : Bool) → nat_lt (at xs v) 2 ≡ t → MadeSingular xs v (set xs v 2) (cond t 1 0)
+      go true q =
+          let s : count is_singular_mark (set xs v 2) + 0 ≡ count is_singular_mark xs + 1 = rw (lt-leb 2 (at xs v) (ltb-true (at xs v) 2 q)) at stored in
+          record { marked = refl; few = omega arith; counted = omega arith }
+      go false q =
+          let s : count is_singular_mark (set xs v 2) + 1 ≡ count is_singular_mark xs + 1 = rw (le-leb 2 (at xs v) (ltb-false (at xs v) 2 q)) at stored in
+          record { marked = refl; few = omega arith; counted = omega arith }
 
-  pub made_now : at xs v < 2 → MadeSingular xs v (set xs v 2) 1
-  made_now q =
-      let s : count is_singular_mark (set xs v 2) + 0 ≡ count is_singular_mark xs + 1 = rw (lt-leb 2 (at xs v) q) at stored in
-      record { marked = refl; few = omega arith; counted = omega arith }
+-- a truth value as a number, as the code adds it up
+pub byte_is : (b : Bool) → bool_byte b ≡ cond b 1 0
+byte_is true = refl
+byte_is false = refl
 
 fan_counts : (m : ℕ) → bit (is_singular_mark (fan_met m)) ≡ bit (is_singular_mark m) + second_fan m
 fan_counts zero = refl
@@ -99,12 +108,10 @@ end_passed m true s = refl
 end_passed m false s = refl
 
 pub record EndsTurn (w : List ℕ) (c n : ℕ) (xs : List ℕ) (k e : ℕ) : Type 0 where
-  pub from_inside : at w (c + e) < length xs
-  pub to_inside : at w (c + at w e) < length xs
   pub singular : (ys zs : List ℕ) (s t : ℕ) → MadeSingular xs (at w (c + e)) ys s → MadeSingular ys (at w (c + at w e)) zs t → at w (2 * c + e) ≡ c → EndsLoop w c n zs (k + s + t) (e + 1)
   pub other : (at w (2 * c + e) ≡ c → ⊥) → EndsLoop w c n xs k (e + 1)
 
-module _ (w : List ℕ) (c n : ℕ) (W : VertexWords w c n) (xs : List ℕ) (k e : ℕ) (h : e < c) (L : EndsLoop w c n xs k e) where
+module _ (w : List ℕ) (c n : ℕ) (W : VerticesBelow w c n) (xs : List ℕ) (k e : ℕ) (h : e < c) (next : at w e < c) (L : EndsLoop w c n xs k e) where
   abbrev a : ℕ
   a = at w (c + e)
 
@@ -114,7 +121,7 @@ module _ (w : List ℕ) (c n : ℕ) (W : VertexWords w c n) (xs : List ℕ) (k e
   ends_met : (ys zs : List ℕ) (s t : ℕ) → MadeSingular xs a ys s → MadeSingular ys b zs t → at w (2 * c + e) ≡ c → EndsLoop w c n zs (k + s + t) (e + 1)
   ends_met ys zs s t M N m =
       let from = from_inside w c n W xs L.size e h in
-      let to : b < length (set xs a 2) = omega (arith, to_inside w c n W xs L.size e h, length-set xs a 2) in
+      let to : b < length (set xs a 2) = omega (arith, to_inside w c n W xs L.size e next, length-set xs a 2) in
       let both : zs ≡ set (set xs a 2) b 2 = N.marked ∙ ap (λ (x : List ℕ). set x b 2) M.marked in
       record {
         size = ap length both ∙ length-set (set xs a 2) b 2 ∙ length-set xs a 2 ∙ L.size;
@@ -138,16 +145,9 @@ module _ (w : List ℕ) (c n : ℕ) (W : VertexWords w c n) (xs : List ℕ) (k e
   pub ends_turn : EndsTurn w c n xs k e
   ends_turn =
       record {
-        from_inside = from_inside w c n W xs L.size e h;
-        to_inside = to_inside w c n W xs L.size e h;
         singular = ends_met;
         other = ends_passed;
       }
-
-pub ends_counted : (w : List ℕ) (c n : ℕ) (xs : List ℕ) (k e : ℕ) → c ≤ e → EndsLoop w c n xs k e → EndsCounted w c xs k
-ends_counted w c n xs k e h L =
-    let none : c - e ≡ 0 = omega arith in
-    record { marked = λ v i. rw none at (L.left v (omega (arith, L.size))); counted = L.counted }
 
 -- without singular edges there are none
 module _ (w : List ℕ) (c : ℕ) (f : (e : ℕ) → e < c → singular_word c e (at w (2 * c + e)) ≡ false) where
@@ -174,9 +174,6 @@ pub record FansLoop (l : List ℤ) (old xs : List ℕ) (k i : ℕ) : Type 0 wher
   pub counted : k + count is_singular_mark old ≡ count is_singular_mark xs
   pub left : (v : ℕ) → v < length old → after_fans (count (eqb v) (vertices (drop i l))) (at xs v) ≡ after_fans (count (eqb v) (vertices l)) (at old v)
 
-pub fans_start : (l : List ℤ) (old : List ℕ) → FansLoop l old old 0 0
-fans_start l old = record { size = refl; few = omega arith; counted = omega arith; left = λ v h. refl }
-
 fan_stored : (l : List ℤ) (old xs : List ℕ) (k i u s : ℕ) → i < length l → u ≡ num (get_or l i (pos 0)) → u < length old → s ≡ second_fan (at xs u) → FansLoop l old xs k i → FansLoop l old (set xs u (fan_met (at xs u))) (k + s) (i + 1)
 fan_stored l old xs k i u s h q inside p L =
     let here : u < length xs = omega (arith, L.size) in
@@ -197,10 +194,6 @@ fan_stored l old xs k i u s h q inside p L =
 -- a fan is met at the vertex of entry i, whose mark becomes y
 pub fans_more : (l : List ℤ) (old xs : List ℕ) (k i u y s : ℕ) → i < length l → u ≡ num (get_or l i (pos 0)) → u < length old → y ≡ fan_met (at xs u) → s ≡ second_fan (at xs u) → FansLoop l old xs k i → FansLoop l old (set xs u y) (k + s) (i + 1)
 fans_more l old xs k i u y s h q inside d p L = rw d (fan_stored l old xs k i u s h q inside p L)
-
-pub fans_counted : (l : List ℤ) (old xs : List ℕ) (k i : ℕ) → length l ≤ i → FansLoop l old xs k i → FansCounted (vertices l) old xs k
-fans_counted l old xs k i h L =
-    record { marked = λ v j. rw (drop_of_length-le l {i = i} h) at (L.left v j); counted = L.counted }
 
 -- the marks against the classes
 

@@ -1,5 +1,6 @@
 -- The classes as the passes over the work buffer find them, from the words of the edge table and the parents behind it.
 --
+--   VerticesBelow w c n  all vertices of the table are below n
 --   is_root_on w c v i   corner i lies on the vertex v and has no earlier parent
 --   roots_on w c v e n   how many of the n corners from e on do
 --   fan_mark k           the mark of a vertex with k fans: 0, 1, or 4 for more
@@ -8,9 +9,12 @@
 --   boundary_word, singular_word  the kinds: one face, or three and more
 --   raised k             the mark k of an endpoint of a boundary edge
 --   finished k s b       the mark k once it is known whether the vertex ends a singular edge, and whether a boundary edge
-use Rattle.std.specs.Prelude.{ℕ, zero, suc, ◌+◌, ◌*◌, List, Bool, false, cond, ◌&&◌, ◌||◌, eqb}
+use Rattle.std.specs.Prelude.{ℕ, zero, suc, ◌+◌, ◌*◌, ◌<◌, List, Bool, false, cond, ◌&&◌, ◌||◌, eqb}
 use Rattle.order.specs.Choose.{count, up_from}
 use Rattle.groups.specs.Forest.{at, is_root}
+
+abbrev pub VerticesBelow : List ℕ → ℕ → ℕ → Type 0
+VerticesBelow w c n = (e : ℕ) → e < c → at w (c + e) < n
 
 abbrev pub is_root_on : List ℕ → ℕ → ℕ → ℕ → Bool
 is_root_on w c v i = is_root w c i && eqb v (at w (c + i))

@@ -1,14 +1,14 @@
 -- Forests of parents. A join puts the later of two roots under the earlier, and the labels are then the merged ones.
-use Prim.Native.Nat.{ℕ, ◌+◌, ◌-◌, ◌*◌, ◌≤◌, ◌<◌, min, max}
+use Prim.Native.Nat.{ℕ, ◌+◌, ◌≤◌, ◌<◌, min, max}
 use mathlib.Core.Path.{◌≡◌, refl, sym, ◌∙◌, ap, subst}
 use mathlib.Core.Bool.{Bool, true, false, cond}
-use mathlib.Core.List.{List, [], ◌∷◌, ◌++◌, map, append-nil}
+use mathlib.Core.List.{List, [], ◌∷◌, ◌++◌, map}
 use native.Mathlib.Omega.{arith}
 use native.Mathlib.Decide.{dec_le}
 use borrow.Author.Tests.{eqb-true, eqb-false, eq-eqb, ne_eqb}
 use lib.Dec.{eqb}
-use lib.ListN.{length, set, take, drop, length-set, length-map, length-drop, length-append, drop_of_length-le}
-use lib.Seq.{get_or-set_same, get_or-set_other, get_or-drop, get_or-append-add, take-set-le, take_at, take_all, length-take-le}
+use lib.ListN.{length, set, length-set, length-map, length-append}
+use lib.Seq.{get_or-set_same, get_or-set_other, get_or-append-add, take-set-le}
 use Rattle.order.proofs.Lists.{get_or-mapped}
 use Rattle.groups.specs.Groups.{Link, merge, merge_all, replaced}
 use Rattle.groups.specs.Forest.{at, link, Forest, Descends, Rises, Climbs, Regrouped, links_across}
@@ -82,11 +82,14 @@ rises_here w x h q = subst (λ (k : ℕ). Rises w 0 x k) (zero_at w x) (rises_pa
 pub climbs_here : (w : List ℕ) (x r : ℕ) → Rises w 0 x r → r ≤ at w r → Climbs w 0 x r
 climbs_here w x r R h = record { rises = R; stops = omega (arith, zero_at w r) }
 
-pub descends_at : (w : List ℕ) (x : ℕ) → x < length w → Descends w 0 → at w x ≤ x
+descends_at : (w : List ℕ) (x : ℕ) → x < length w → Descends w 0 → at w x ≤ x
 descends_at w x h D = omega (arith, zero_at w x, D x (omega arith))
 
-pub forest_descends : (w : List ℕ) (p : ℕ) (labels : List ℕ) → Forest w p labels → Descends w p
-forest_descends w p labels F i h = F.down i (omega (arith, F.long))
+pub rises_twice : (w : List ℕ) (x : ℕ) → x < length w → Descends w 0 → Rises w 0 x (at w (at w x))
+rises_twice w x h D =
+    let near = descends_at w x h D in
+    let far = descends_at w (at w x) (omega (arith, near)) D in
+    rises_on w 0 x (at w x) (at w (at w x)) (rises_here w x h near) (rises_here w (at w x) (omega (arith, near)) far)
 
 -- the roots a and b of the corners x and y are their labels
 module _ (w : List ℕ) (p : ℕ) (labels : List ℕ) (F : Forest w p labels) (x r : ℕ) (inside : x < length labels) (C : Climbs w p x r) where
@@ -117,6 +120,7 @@ module _ (w : List ℕ) (p x y a b : ℕ) (hx : p + x < length w) (hy : p + y < 
   regrouped : Regrouped w (set w (p + max a b) (min a b)) p (λ labels. merge labels (link x y))
   regrouped =
       record {
+        long = length-set w (p + max a b) (min a b);
         front = take-set-le p w (p + max a b) (min a b) (omega arith);
         down = λ D i h. falls D i (omega (arith, length-set w (p + max a b) (min a b))) (eqb i (max a b)) refl;
         groups = λ labels F. joined labels F (dec_le a b);
@@ -146,76 +150,33 @@ regrouped_alone w x y a b hx hy A B =
     let z : 0 + max a b ≡ max a b = omega arith in
     subst (λ (k : ℕ). Regrouped w (set w k (min a b)) 0 (λ labels. merge labels (link x y))) z (regrouped w 0 x y a b (omega arith) (omega arith) A B)
 
--- a join of the parents alone, which stand behind the first p words
-module _ (w s : List ℕ) (p : ℕ) (g : List ℕ → List ℕ) (h : p ≤ length w) (l : length s ≡ length (drop p w)) (R : Regrouped (drop p w) s 0 g) where
-  abbrev w' : List ℕ
-  w' = take p w ++ s
-
-  apart : length (take p w) ≡ p
-  apart = length-take-le p w h
-
-  old_at : (i : ℕ) → at (drop p w) (0 + i) ≡ at w (p + i)
-  old_at i = let z : 0 + i ≡ i = omega arith in ap (at (drop p w)) z ∙ get_or-drop p w i 0
-
-  new_at : (i : ℕ) → at w' (p + i) ≡ at s (0 + i)
-  new_at i =
+-- parents that stand behind the first p words
+module _ (t ps : List ℕ) (p : ℕ) (l : length t ≡ p) where
+  at_behind : (i : ℕ) → at (t ++ ps) (p + i) ≡ at ps (0 + i)
+  at_behind i =
       let z : i ≡ 0 + i = omega arith in
-      ap (λ (k : ℕ). at w' (k + i)) (sym apart) ∙ get_or-append-add (take p w) s i 0 ∙ ap (at s) z
+      ap (λ (k : ℕ). at (t ++ ps) (k + i)) (sym l) ∙ get_or-append-add t ps i 0 ∙ ap (at ps) z
 
-  alone : (labels : List ℕ) → Forest w p labels → Forest (drop p w) 0 labels
-  alone labels F =
+  pub forest_behind : (labels : List ℕ) → Forest ps 0 labels → Forest (t ++ ps) p labels
+  forest_behind labels F =
       record {
-        long = omega (arith, length-drop p w, F.long);
-        down = λ i q. rw (old_at i) (F.down i q);
-        same = λ i q. rw (old_at i) (F.same i q);
-        root = λ i q e. F.root i q (sym (old_at i) ∙ e);
+        long = omega (arith, length-append t ps, l, F.long);
+        down = λ i q. rw (at_behind i) (F.down i q);
+        same = λ i q. rw (at_behind i) (F.same i q);
+        root = λ i q e. F.root i q (sym (at_behind i) ∙ e);
       }
-
-  behind : (labels : List ℕ) → Forest s 0 labels → Forest w' p labels
-  behind labels F =
-      record {
-        long = omega (arith, length-append (take p w) s, apart, F.long);
-        down = λ i q. rw (new_at i) (F.down i q);
-        same = λ i q. rw (new_at i) (F.same i q);
-        root = λ i q e. F.root i q (sym (new_at i) ∙ e);
-      }
-
-  lent : Descends w p → Descends (drop p w) 0
-  lent D i q = rw (old_at i) (D i (omega (arith, length-drop p w)))
-
-  regrouped_behind : Regrouped w w' p g
-  regrouped_behind =
-      record {
-        front = take_at (take p w) s p apart;
-        down = λ D i q. rw (new_at i) (R.down (lent D) i (omega (arith, length-append (take p w) s, apart)));
-        groups = λ labels F. behind (g labels) (R.groups labels (alone labels F));
-      }
-
--- the parents lent as the part from p to the end
-pub regrouped_lent : (w s : List ℕ) (p m : ℕ) (g : List ℕ → List ℕ) → p ≤ length w → m ≡ length w - p → length s ≡ length (take m (drop p w)) → Regrouped (take m (drop p w)) s 0 g → Regrouped w (take p w ++ (s ++ drop m (drop p w))) p g
-regrouped_lent w s p m g h e l R =
-    let all : take m (drop p w) ≡ drop p w = take_all m (drop p w) (omega (arith, length-drop p w)) in
-    let none : s ++ drop m (drop p w) ≡ s = rw (drop_of_length-le (drop p w) {i = m} (omega (arith, length-drop p w))) (append-nil s) in
-    rw none (regrouped_behind w s p g h (l ∙ ap length all) (subst (λ (u : List ℕ). Regrouped u s 0 g) all R))
-
-pub descends_lent : (w : List ℕ) (p m : ℕ) → p ≤ length w → m ≡ length w - p → Descends w p → Descends (take m (drop p w)) 0
-descends_lent w p m h e D i q =
-    let all : take m (drop p w) ≡ drop p w = take_all m (drop p w) (omega (arith, length-drop p w)) in
-    let z : 0 + i ≡ i = omega arith in
-    let k : i < length (drop p w) = omega (arith, ap length all) in
-    omega (arith, ap (λ (u : List ℕ). at u (0 + i)) all, ap (at (drop p w)) z, get_or-drop p w i 0, D i (omega (arith, length-drop p w)))
 
 -- a join after a join
 regrouped_then : (w w₁ w₂ : List ℕ) (p : ℕ) (k₁ k₂ : Link) → Regrouped w w₁ p (λ labels. merge labels k₁) → Regrouped w₁ w₂ p (λ labels. merge labels k₂) → Regrouped w w₂ p (λ labels. merge_all labels (k₁ ∷ k₂ ∷ []))
 regrouped_then w w₁ w₂ p k₁ k₂ R S =
-    record { front = S.front ∙ R.front; down = λ D. S.down (R.down D); groups = λ labels F. S.groups (merge labels k₁) (R.groups labels F) }
+    record { long = S.long ∙ R.long; front = S.front ∙ R.front; down = λ D. S.down (R.down D); groups = λ labels F. S.groups (merge labels k₁) (R.groups labels F) }
 
--- the two joins across an edge, along which the two uses run the same way or opposite ways
-module _ (w w₁ w₂ : List ℕ) (c e m : ℕ) where
-  pub across_same : at w (c + e) ≡ at w (c + m) → Regrouped w w₁ (3 * c) (λ labels. merge labels (link e m)) → Regrouped w₁ w₂ (3 * c) (λ labels. merge labels (link (at w e) (at w m))) → Regrouped w w₂ (3 * c) (λ labels. merge_all labels (links_across w c e m))
+-- the two joins across an edge of the table t, along which the two uses run the same way or opposite ways
+module _ (t w w₁ w₂ : List ℕ) (p c e m : ℕ) where
+  pub across_same : at t (c + e) ≡ at t (c + m) → Regrouped w w₁ p (λ labels. merge labels (link e m)) → Regrouped w₁ w₂ p (λ labels. merge labels (link (at t e) (at t m))) → Regrouped w w₂ p (λ labels. merge_all labels (links_across t c e m))
   across_same h R S =
-      rw (eq-eqb (at w (c + e)) (at w (c + m)) h) (regrouped_then w w₁ w₂ (3 * c) (link e m) (link (at w e) (at w m)) R S)
+      rw (eq-eqb (at t (c + e)) (at t (c + m)) h) (regrouped_then w w₁ w₂ p (link e m) (link (at t e) (at t m)) R S)
 
-  pub across_opposite : (at w (c + e) ≡ at w (c + m) → ⊥) → Regrouped w w₁ (3 * c) (λ labels. merge labels (link e (at w m))) → Regrouped w₁ w₂ (3 * c) (λ labels. merge labels (link (at w e) m)) → Regrouped w w₂ (3 * c) (λ labels. merge_all labels (links_across w c e m))
+  pub across_opposite : (at t (c + e) ≡ at t (c + m) → ⊥) → Regrouped w w₁ p (λ labels. merge labels (link e (at t m))) → Regrouped w₁ w₂ p (λ labels. merge labels (link (at t e) m)) → Regrouped w w₂ p (λ labels. merge_all labels (links_across t c e m))
   across_opposite h R S =
-      rw (ne_eqb (at w (c + e)) (at w (c + m)) h) (regrouped_then w w₁ w₂ (3 * c) (link e (at w m)) (link (at w e) m) R S)
+      rw (ne_eqb (at t (c + e)) (at t (c + m)) h) (regrouped_then w w₁ w₂ p (link e (at t m)) (link (at t e) m) R S)

@@ -8,15 +8,16 @@
 --   Descends w p       no parent from p on is after its child
 --   Rises w p x r      r is reached from x by going from child to parent
 --   Climbs w p x r     r is reached from x by going from child to parent, and has no earlier parent
---   Regrouped w w' p g from p on w has become w', and where it held groups with some labels, it holds those with g of them
+--   Regrouped w w' p g  from p on w has become w', as long, and where it held groups with some labels, it holds those with g of them
 --   TableWords w c     four blocks, and each next corner is a corner
 --   VertexWords w c n  the same, with few corners, and all vertices below n
 --   is_root w c i      corner i has no earlier parent
 --   Grouped l c w      w holds the edge table of the list l and the parents of its fans
+--   later_mate_of w c e  the later corner with which e alone shares its edge, where there is one
 --   links_across       the links across an edge whose two uses start at two corners, from the words of the edge table
 --   links_at_corner    the links at a corner, the earlier of the two
 --   table_links w c    the links of the edge table in w
-use Rattle.std.specs.Prelude.{ℕ, zero, suc, ◌+◌, ◌*◌, ◌≤◌, ◌<◌, ◌^◌, ◌≡◌, List, [], ◌∷◌, ◌++◌, Bool, cond, ◌&&◌, leb, ltb, eqb, ℤ, length, get_or, take}
+use Rattle.std.specs.Prelude.{ℕ, zero, suc, ◌+◌, ◌*◌, ◌≤◌, ◌<◌, ◌^◌, ◌≡◌, List, [], ◌∷◌, ◌++◌, Bool, cond, ◌&&◌, leb, ltb, eqb, Option, Some, None, ℤ, length, get_or, take}
 use Rattle.edges.specs.Uses.{uses}
 use Rattle.edges.specs.Table.{table_of}
 use Rattle.groups.specs.Groups.{Link, fan_labels}
@@ -45,6 +46,7 @@ pub record Climbs (w : List ℕ) (p x r : ℕ) : Type 0 where
   pub stops : r ≤ at w (p + r)
 
 pub record Regrouped (w w' : List ℕ) (p : ℕ) (g : List ℕ → List ℕ) : Type 0 where
+  pub long : length w' ≡ length w
   pub front : take p w' ≡ take p w
   pub down : Descends w p → Descends w' p
   pub groups : (labels : List ℕ) → Forest w p labels → Forest w' p (g labels)
@@ -66,6 +68,9 @@ pub record Grouped (l : List ℤ) (c : ℕ) (w : List ℕ) : Type 0 where
   pub size : length w ≡ 4 * c
   pub front : take (3 * c) w ≡ take (3 * c) (table_of l)
   pub forest : Forest w (3 * c) (fan_labels l)
+
+abbrev pub later_mate_of : List ℕ → ℕ → ℕ → Option ℕ
+later_mate_of w c e = cond (ltb e (at w (2 * c + e)) && ltb (at w (2 * c + e)) c) (Some (at w (2 * c + e))) None
 
 abbrev pub links_across : List ℕ → ℕ → ℕ → ℕ → List Link
 links_across w c e m =

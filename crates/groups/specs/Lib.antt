@@ -1,3 +1,4 @@
 pub mod Groups
 pub mod Distinct
 pub mod Forest
+pub mod Parents

@@ -1,108 +1,56 @@
-// Groups of corners across regular edges, in the work buffer: for each corner a parent, in the block that starts at p, that is
+// Groups of corners across regular edges, in the work buffer: for each corner a parent, in the block behind the edge table, that is
 // not after it. It stands on `edges` and cites its contracts only; `fans`, `renumber` and `cut` stand on it.
 #![tactic(auto)]
 
-ghost use Rattle.std.specs.Prelude.{◌≡◌, ◌+◌, ◌-◌, ◌*◌, ◌<◌, ◌≤◌, ◌^◌, min, max, length, take};
+ghost use Rattle.std.specs.Prelude.{◌≡◌, ◌*◌, ◌<◌, ◌^◌, length, take};
 ghost use Rattle.list.specs.Faces.{corners};
 ghost use Rattle.list.specs.Check.{Valid};
 ghost use Rattle.edges.specs.Uses.{singular_edge_count};
-ghost use Rattle.groups.specs.Groups.{merge, merge_all, up_to, labels_of};
-ghost use Rattle.groups.specs.Forest.{Descends, Rises, Climbs, Regrouped, TableWords, Forest, Grouped, link, links_across, table_links};
+ghost use Rattle.groups.specs.Groups.{merge_all, up_to, labels_of};
+ghost use Rattle.groups.specs.Parents.{Joins};
+ghost use Rattle.groups.specs.Forest.{TableWords, Forest, Grouped, links_across, table_links};
 
-// The parent of the corner x.
-fn parent(parents: &[u32], x: usize) -> usize
-    requires { (x < length parents.now) × Descends parents.now 0 }
-    ensures { Rises parents.now 0 x result }
-{
-    parents[x] as usize
-}
+mod parents;
+mod table;
 
-// The corner at which the way from x over parents ends. It only reads. Most ways have at most two steps: those two are taken
-// without a test, since how many there are cannot be guessed.
-fn root(parents: &[u32], x: usize) -> usize
-    requires { (x < length parents.now) × Descends parents.now 0 }
-    ensures { Climbs parents.now 0 x result }
-{
-    let near = parent(parents, x);
-    let mut r = parent(parents, near);
-    while (parents[r] as usize) < r {
-        r = parents[r] as usize;
-    }
-    r
-}
-
-// The earlier of two corners, and the later: which of them it is cannot be guessed, so neither is found by a branch of the join.
-fn earlier(a: usize, b: usize) -> usize
-    ensures { result ≡ min a b }
-{
-    if a < b { a } else { b }
-}
-
-fn later(a: usize, b: usize) -> usize
-    ensures { result ≡ max a b }
-{
-    if a < b { b } else { a }
-}
-
-// Joins the groups of the corners x and y: the later of their two roots gets the earlier for its parent.
-fn put_under(parents: &mut [u32], x: usize, y: usize)
-    requires { (x < length parents.old) × (y < length parents.old) × (length parents.old < 2 ^ 32) × Descends parents.old 0 }
-    ensures { Regrouped parents.old parents.new 0 (λ labels. merge labels (link x y)) }
-{
-    let a = root(parents, x);
-    let b = root(parents, y);
-    let last = later(a, b);
-    parents[last] = earlier(a, b) as u32;
-}
-
-// The same of the parents in the block that starts at p, which are lent alone: no step adds where their block starts.
-fn join(w: &mut [u32], p: usize, x: usize, y: usize)
-    requires { (p + x < length w.old) × (p + y < length w.old) × (length w.old < 2 ^ 32) × Descends w.old p }
-    ensures { Regrouped w.old w.new p (λ labels. merge labels (link x y)) }
-{
-    put_under(&mut w[p..], x, y);
-}
+use parents::Parents;
+pub use table::EdgeTable;
 
 // Joins across the regular edge whose two uses start at the corners e and m: the two corners at each of its endpoints.
-fn join_across(w: &mut [u32], c: usize, e: usize, m: usize)
-    requires { TableWords w.old c × (e < c) × (m < c) × (c < 2 ^ 30) × Descends w.old (3 * c) }
-    ensures { Regrouped w.old w.new (3 * c) (λ labels. merge_all labels (links_across w.old c e m)) }
+fn join_across(table: EdgeTable<'_>, parents: &mut Parents<'_>, e: usize, m: usize)
+    requires { (length parents.old.of.now ≡ table.corners) × (e < table.corners) × (m < table.corners) }
+    ensures { Joins parents.old parents.new (λ labels. merge_all labels (links_across table.entry.words.now table.entry.corners e m)) }
 {
-    let f = w[e] as usize;
-    let g = w[m] as usize;
-    if w[c + e] == w[c + m] {
-        join(w, 3 * c, e, m);
-        join(w, 3 * c, f, g);
+    let f = table.next(e);
+    let g = table.next(m);
+    if table.vertex(e) == table.vertex(m) {
+        parents.join(e, m);
+        parents.join(f, g);
     } else {
-        join(w, 3 * c, e, g);
-        join(w, 3 * c, f, m);
+        parents.join(e, g);
+        parents.join(f, m);
     }
 }
 
 // Joins across every regular edge, each once, at its earlier use.
-fn join_edges(w: &mut [u32], c: usize)
-    requires { TableWords w.old c × (c < 2 ^ 30) × Descends w.old (3 * c) }
-    ensures { Regrouped w.old w.new (3 * c) (λ labels. merge_all labels (table_links w.old c)) }
+fn join_edges(table: EdgeTable<'_>, parents: &mut Parents<'_>)
+    requires { length parents.old.of.now ≡ table.corners }
+    ensures { Joins parents.old parents.new (λ labels. merge_all labels (table_links table.entry.words.now table.entry.corners)) }
 {
-    for e in 0..c {
-        let m = w[2 * c + e] as usize;
-        if e < m {
-            if m < c {
-                join_across(w, c, e, m);
-            }
+    for e in 0..table.corners {
+        if let Some(m) = table.later_mate(e) {
+            join_across(table, parents, e, m);
         }
     }
 }
 
-// Every corner its own parent, in the block that starts at p.
-fn separate(w: &mut [u32], p: usize)
-    requires { (p ≤ length w.old) × (length w.old < 2 ^ 32) }
-    ensures { (take p w.new ≡ take p w.old) × Forest w.new p (up_to (length w.old - p)) }
+// Every corner its own parent.
+fn separate(parents: &mut [u32])
+    requires { length parents.old < 2 ^ 32 }
+    ensures { Forest parents.new 0 (up_to (length parents.old)) }
 {
-    let mut i = 0;
-    while p + i < w.len() {
-        w[p + i] = i as u32;
-        i += 1;
+    for (i, parent) in parents.iter_mut().enumerate() {
+        *parent = i as u32;
     }
 }
 
@@ -111,11 +59,14 @@ fn group(w: &mut [u32], c: usize)
     requires { TableWords w.old c × (c < 2 ^ 30) }
     ensures { (take (3 * c) w.new ≡ take (3 * c) w.old) × Forest w.new (3 * c) (labels_of c (table_links w.old c)) }
 {
-    separate(w, 3 * c);
-    join_edges(w, c);
+    let (words, parents) = w.split_at_mut(3 * c);
+    separate(parents);
+    let table = EdgeTable { words, corners: c };
+    join_edges(table, &mut Parents { of: parents });
 }
 
 // The edge table of a valid list in the work buffer, with the parents of its groups behind it, and the number of singular edges.
+// kept: list, n and c apart, as docs/CONTRACTS.md names `group_list`: a `ValidList` would ask its caller for the number of faces too.
 pub fn group_list(list: &[i32], n: usize, c: usize, work: &mut [u32]) -> usize
     requires { Valid list.now n × (c ≡ length (corners list.now)) × (length work.old ≡ 4 * c) }
     ensures { Grouped list.now c work.new × (result ≡ singular_edge_count list.now) }

@@ -6,8 +6,7 @@ use native.Mathlib.Omega.{arith}
 use lib.IntN.{ℤ, pos, negsuc}
 use lib.ListN.{replicate, length-replicate}
 use Rattle.list.specs.Limits.{max_entries, max_vertices}
-use Rattle.list.specs.Check.{check_of, check_faces, face_fault, refused, accepted}
-use Rattle.list.specs.declared.CheckAnswer.{CheckAnswer}
+use Rattle.list.specs.Check.{CheckAnswer, check_of, check_faces, face_fault, refused, accepted}
 use Rattle.list.proofs.Checking.{check_entries}
 
 pub record Row : Type 0 where

@@ -1,4 +1,4 @@
--- A face's first fault in the words of the code table: `face_fault` says Outside, Short, Repeated or Sound exactly when the table does.
+-- A face's first fault in the words of the code table: `face_fault` says Outside, Short, Repeated or nothing exactly when the table does.
 use Prim.Native.Nat.{ℕ, zero, suc, ◌≤◌, ◌<◌}
 use mathlib.Core.Path.{◌≡◌, refl, sym, ◌∙◌, ap, subst, subst⁻¹}
 use mathlib.Core.Bool.{Bool, true, false, true≢false, false≢true}
@@ -12,8 +12,9 @@ use Rattle.list.specs.Faces.{is_end, num, vertices}
 use Rattle.list.specs.Check.{outside, first_outside, elem, first_repeat, face_fault, ValidFace}
 use Rattle.list.specs.Codes.{Outside, below, at_least, NoneOutside, RepeatAt}
 use Rattle.list.specs.Flags.{seen_to}
-use Rattle.list.specs.declared.FaceFault.{FaceFault}
-use Rattle.list.specs.declared.FaceFault.TheVariants as Fault·
+use Rattle.std.specs.Prelude.{Result, Ok, Err}
+use Rattle.list.specs.declared.rules.FaceFault.{FaceFault}
+use Rattle.list.specs.declared.rules.FaceFault.TheVariants as Fault·
 use Rattle.list.proofs.First.{first_none, first_found, first_before, first_only}
 use Rattle.list.proofs.Repeats.{vertex_of, vertices_long, seen_not, seen_index, seen_has, repeat_found, repeat_only}
 use Rattle.list.proofs.Faults.{fault_outside, fault_short, fault_repeated, fault_none}
@@ -43,11 +44,11 @@ index_of n (pos v) e d = (v, refl, not-le n v (λ h. d (at_least v h)))
 index_of n (negsuc zero) e d = absurd (true≢false e)
 index_of n (negsuc (suc m)) e d = absurd (d (below m))
 
-pub data FaceSaid (n : ℕ) (r : List ℤ) : FaceFault → Type 0 where
-  out : (i : ℕ) → i < length r → Outside n (get_or r i (pos 0)) → ((j : ℕ) → j < i → Outside n (get_or r j (pos 0)) → ⊥) → FaceSaid n r (Fault·.Outside i)
-  few : NoneOutside n r → length r < 3 → FaceSaid n r Fault·.Short
-  twice : (j : ℕ) → NoneOutside n r → 3 ≤ length r → j < length r → RepeatAt r j → ((i : ℕ) → i < j → RepeatAt r i → ⊥) → FaceSaid n r (Fault·.Repeated j)
-  fine : ValidFace n r → FaceSaid n r Fault·.Sound
+pub data FaceSaid (n : ℕ) (r : List ℤ) : Result (Unit {0}) FaceFault → Type 0 where
+  out : (i : ℕ) → i < length r → Outside n (get_or r i (pos 0)) → ((j : ℕ) → j < i → Outside n (get_or r j (pos 0)) → ⊥) → FaceSaid n r (Err (Fault·.Outside i))
+  few : NoneOutside n r → length r < 3 → FaceSaid n r (Err Fault·.Short)
+  twice : (j : ℕ) → NoneOutside n r → 3 ≤ length r → j < length r → RepeatAt r j → ((i : ℕ) → i < j → RepeatAt r i → ⊥) → FaceSaid n r (Err (Fault·.Repeated j))
+  fine : ValidFace n r → FaceSaid n r (Ok tt)
 
 -- no entry of r is -1, as in a run
 module _ (n : ℕ) (r : List ℤ) (clean : (i : ℕ) → i < length r → is_end (get_or r i (pos 0)) ≡ false) where
@@ -116,17 +117,17 @@ module _ (n : ℕ) (r : List ℤ) (clean : (i : ℕ) → i < length r → is_end
             different = λ i j h q e. unrepeated_said j q (omega arith) (record { earlier = i; before = h; equal = e });
           }))
 
-  pub face_only : (f : FaceFault) → FaceSaid n r f → face_fault n r ≡ f
+  pub face_only : (f : Result (Unit {0}) FaceFault) → FaceSaid n r f → face_fault n r ≡ f
   face_only f (out i h o first) =
       let e : first_outside n r ≡ i = first_only (outside n) r i h (outside_holds n (get_or r i (pos 0)) o) (λ j q. outside_denied n (get_or r j (pos 0)) (first j q)) in
-      fault_outside n r (omega arith) ∙ ap Fault·.Outside e
+      fault_outside n r (omega arith) ∙ ap (λ k. Err (Fault·.Outside k)) e
   face_only f (few none s) = fault_short n r (outside_none none) s
   face_only f (twice j none long h a first) =
       let e : first_repeat (vertices r) ≡ j = repeat_only (vertices r) j (rw vertices_long h) (repeat_holds j a) (λ i q. repeat_denied none i (omega arith) (first i q)) in
-      fault_repeated n r (outside_none none) long (omega arith) ∙ ap Fault·.Repeated e
+      fault_repeated n r (outside_none none) long (omega arith) ∙ ap (λ k. Err (Fault·.Repeated k)) e
   face_only f (fine v) = go (dec_lt (first_repeat (vertices r)) (length r))
     where
-      go : Dec (first_repeat (vertices r) < length r) → face_fault n r ≡ Fault·.Sound
+      go : Dec (first_repeat (vertices r) < length r) → face_fault n r ≡ Ok tt
       go (yes t) =
           let a : RepeatAt r (first_repeat (vertices r)) = repeat_said (valid_none v) (first_repeat (vertices r)) t (repeat_found (vertices r) (rw vertices_long t)) in
           absurd (v.different a.earlier (first_repeat (vertices r)) a.before t a.equal)

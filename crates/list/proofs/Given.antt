@@ -10,12 +10,12 @@ use lib.IntN.{ℤ, pos}
 use lib.ListN.{length, get_or}
 use Rattle.list.specs.Limits.{max_entries, max_vertices}
 use Rattle.list.specs.Faces.{is_end, runs, push, Face, faces_from, faces, corners}
-use Rattle.list.specs.Check.{ValidFace, Valid, face_fault, by_fault, check_faces, check_of, refused, accepted}
+use Rattle.list.specs.Check.{CheckAnswer, ValidFace, Valid, face_fault, by_fault, check_faces, check_of, refused, accepted}
 use Rattle.list.specs.Codes.{run, start_of, Within, FirstFaulty, Row}
 use Rattle.list.specs.Show.{span_in}
-use Rattle.list.specs.declared.CheckAnswer.{CheckAnswer}
-use Rattle.list.specs.declared.FaceFault.{FaceFault}
-use Rattle.list.specs.declared.FaceFault.TheVariants as Fault·
+use Rattle.std.specs.Prelude.{Result, Ok, Err}
+use Rattle.list.specs.declared.rules.FaceFault.{FaceFault}
+use Rattle.list.specs.declared.rules.FaceFault.TheVariants as Fault·
 use Rattle.list.proofs.Facewise.{FaceSaid, out, few, twice, fine, face_said, face_only}
 use Rattle.list.proofs.Checking.{sound, check_entries, check_vertices, check_faces_lem}
 
@@ -52,13 +52,13 @@ run_clean l = runs_clean l
 module _ (n : ℕ) where
   -- the runs before k have no fault
   SoundBefore : List (List ℤ) → ℕ → Type 0
-  SoundBefore rs k = (j : ℕ) → j < k → face_fault n (get_or rs j []) ≡ Fault·.Sound
+  SoundBefore rs k = (j : ℕ) → j < k → face_fault n (get_or rs j []) ≡ Ok tt
 
   data Searched (rs : List (List ℤ)) : Type 0 where
     no_fault : SoundBefore rs (length rs) → Searched rs
-    fault_at : (k : ℕ) → k < length rs → SoundBefore rs k → (face_fault n (get_or rs k []) ≡ Fault·.Sound → ⊥) → Searched rs
+    fault_at : (k : ℕ) → k < length rs → SoundBefore rs k → (face_fault n (get_or rs k []) ≡ Ok tt → ⊥) → Searched rs
 
-  sound_cons : (r : List ℤ) (rs : List (List ℤ)) (k : ℕ) → face_fault n r ≡ Fault·.Sound → SoundBefore rs k → SoundBefore (r ∷ rs) (suc k)
+  sound_cons : (r : List ℤ) (rs : List (List ℤ)) (k : ℕ) → face_fault n r ≡ Ok tt → SoundBefore rs k → SoundBefore (r ∷ rs) (suc k)
   unfolding SoundBefore
   sound_cons r rs k e b zero h = e
   sound_cons r rs k e b (suc j) h = b j (omega arith)
@@ -67,18 +67,18 @@ module _ (n : ℕ) where
   search_fault [] = no_fault (unfold SoundBefore in λ j h. absurd (omega arith))
   search_fault (r ∷ rs) = go (face_fault n r) refl (search_fault rs)
     where
-      first : (face_fault n r ≡ Fault·.Sound → ⊥) → Searched (r ∷ rs)
+      first : (face_fault n r ≡ Ok tt → ⊥) → Searched (r ∷ rs)
       first d = fault_at 0 (omega arith) (unfold SoundBefore in λ j h. absurd (omega arith)) d
 
-      later : face_fault n r ≡ Fault·.Sound → Searched rs → Searched (r ∷ rs)
+      later : face_fault n r ≡ Ok tt → Searched rs → Searched (r ∷ rs)
       later e (no_fault b) = no_fault (sound_cons r rs (length rs) e b)
       later e (fault_at k h b d) = fault_at (suc k) (omega arith) (sound_cons r rs k e b) d
 
-      go : (f : FaceFault) → face_fault n r ≡ f → Searched rs → Searched (r ∷ rs)
-      go Fault·.Sound e s = later e s
-      go (Fault·.Outside i) e s = first (λ q. let z : ◌≡◌ {A = ℕ} 0 1 = cc in omega arith)
-      go Fault·.Short e s = first (λ q. let z : ◌≡◌ {A = ℕ} 0 1 = cc in omega arith)
-      go (Fault·.Repeated i) e s = first (λ q. let z : ◌≡◌ {A = ℕ} 0 1 = cc in omega arith)
+      go : (f : Result (Unit {0}) FaceFault) → face_fault n r ≡ f → Searched rs → Searched (r ∷ rs)
+      go (Ok _) e s = later e s
+      go (Err (Fault·.Outside i)) e s = first (λ q. let z : ◌≡◌ {A = ℕ} 0 1 = cc in omega arith)
+      go (Err Fault·.Short) e s = first (λ q. let z : ◌≡◌ {A = ℕ} 0 1 = cc in omega arith)
+      go (Err (Fault·.Repeated i)) e s = first (λ q. let z : ◌≡◌ {A = ℕ} 0 1 = cc in omega arith)
 
   all_sound : (s : ℕ) (rs : List (List ℤ)) (ok : CheckAnswer) → SoundBefore rs (length rs) → check_faces n (faces_from s rs) ok ≡ ok
   unfolding SoundBefore check_faces
@@ -86,28 +86,28 @@ module _ (n : ℕ) where
   all_sound s (r ∷ rs) ok b = rw (b 0 (omega arith)) (all_sound (s + length r + 1) rs ok (λ j h. b (suc j) (omega arith)))
 
   -- the first fault decides
-  decided : (s : ℕ) (rs : List (List ℤ)) (ok : CheckAnswer) (k : ℕ) (f : FaceFault) → k < length rs → SoundBefore rs k → face_fault n (get_or rs k []) ≡ f → (rest : CheckAnswer) × (check_faces n (faces_from s rs) ok ≡ by_fault (span_in (faces_from s rs) k).start f rest)
+  decided : (s : ℕ) (rs : List (List ℤ)) (ok : CheckAnswer) (k : ℕ) (f : Result (Unit {0}) FaceFault) → k < length rs → SoundBefore rs k → face_fault n (get_or rs k []) ≡ f → (rest : CheckAnswer) × (check_faces n (faces_from s rs) ok ≡ by_fault (span_in (faces_from s rs) k).start f rest)
   unfolding SoundBefore check_faces
   decided s [] ok k f h b e = absurd (omega arith)
-  decided s (r ∷ rs) ok zero f h b e = (check_faces n (faces_from (s + length r + 1) rs) ok, ap (λ (g : FaceFault). by_fault s g (check_faces n (faces_from (s + length r + 1) rs) ok)) e)
+  decided s (r ∷ rs) ok zero f h b e = (check_faces n (faces_from (s + length r + 1) rs) ok, ap (λ (g : Result (Unit {0}) FaceFault). by_fault s g (check_faces n (faces_from (s + length r + 1) rs) ok)) e)
   decided s (r ∷ rs) ok (suc k) f h b e = rw (b 0 (omega arith)) (decided (s + length r + 1) rs ok k f (omega arith) (λ j q. b (suc j) (omega arith)) e)
 
 module _ (l : List ℤ) (n : ℕ) where
   clean_at : (k : ℕ) → k < length (runs l) → (i : ℕ) → i < length (run l k) → is_end (get_or (run l k) i (pos 0)) ≡ false
   clean_at k h i = run_clean l k i h
 
-  sound_valid : (r : List ℤ) (f : FaceFault) → FaceSaid n r f → f ≡ Fault·.Sound → ValidFace n r
+  sound_valid : (r : List ℤ) (f : Result (Unit {0}) FaceFault) → FaceSaid n r f → f ≡ Ok tt → ValidFace n r
   sound_valid r f (out i h o first) e = let z : ◌≡◌ {A = ℕ} 0 1 = cc in absurd (omega arith)
   sound_valid r f (few none s) e = let z : ◌≡◌ {A = ℕ} 0 1 = cc in absurd (omega arith)
   sound_valid r f (twice j none long h a first) e = let z : ◌≡◌ {A = ℕ} 0 1 = cc in absurd (omega arith)
   sound_valid r f (fine v) e = v
 
   -- a face without fault is valid, and the other way round
-  pub face_valid : (k : ℕ) → k < length (runs l) → face_fault n (run l k) ≡ Fault·.Sound → ValidFace n (run l k)
+  pub face_valid : (k : ℕ) → k < length (runs l) → face_fault n (run l k) ≡ Ok tt → ValidFace n (run l k)
   face_valid k h e = sound_valid (run l k) (face_fault n (run l k)) (face_said n (run l k) (clean_at k h)) e
 
-  pub valid_face : (k : ℕ) → k < length (runs l) → ValidFace n (run l k) → face_fault n (run l k) ≡ Fault·.Sound
-  valid_face k h v = face_only n (run l k) (clean_at k h) Fault·.Sound (fine v)
+  pub valid_face : (k : ℕ) → k < length (runs l) → ValidFace n (run l k) → face_fault n (run l k) ≡ Ok tt
+  valid_face k h v = face_only n (run l k) (clean_at k h) (Ok tt) (fine v)
 
   faulty_at : (k : ℕ) → k < length (runs l) → SoundBefore n (runs l) k → FirstFaulty l n k
   unfolding SoundBefore
@@ -120,7 +120,7 @@ module _ (l : List ℤ) (n : ℕ) where
   RowOf : CheckAnswer → Type 0
   RowOf a = Row l n a.code a.place
 
-  row_at : Within l n → (k : ℕ) → k < length (runs l) → SoundBefore n (runs l) k → (f : FaceFault) → (f ≡ Fault·.Sound → ⊥) → FaceSaid n (run l k) f → (rest : CheckAnswer) → RowOf (by_fault (start_of l k) f rest)
+  row_at : Within l n → (k : ℕ) → k < length (runs l) → SoundBefore n (runs l) k → (f : Result (Unit {0}) FaceFault) → (f ≡ Ok tt → ⊥) → FaceSaid n (run l k) f → (rest : CheckAnswer) → RowOf (by_fault (start_of l k) f rest)
   unfolding RowOf
   row_at w k h b f d (out i q o first) rest =
       (w, record { face = k; faulty = faulty_at k h b; place = i; inside = q; out = o; first = first; position = refl })
@@ -152,7 +152,7 @@ module _ (l : List ℤ) (n : ℕ) where
   Answers : CheckAnswer → ℕ → ℕ → Type 0
   Answers a c p = (a.code ≡ c) × (a.place ≡ p)
 
-  answers_at : Within l n → (k : ℕ) → FirstFaulty l n k → (f : FaceFault) → FaceSaid n (run l k) f → (c p : ℕ) → ((rest : CheckAnswer) → Answers (by_fault (start_of l k) f rest) c p) → Answers (check_of l n) c p
+  answers_at : Within l n → (k : ℕ) → FirstFaulty l n k → (f : Result (Unit {0}) FaceFault) → FaceSaid n (run l k) f → (c p : ℕ) → ((rest : CheckAnswer) → Answers (by_fault (start_of l k) f rest) c p) → Answers (check_of l n) c p
   answers_at w k q f s c p given =
       let e = decided n 0 (runs l) (sound l) k f q.there (sound_at k q) (face_only n (run l k) (clean_at k q.there) f s) in
       subst (λ (a : CheckAnswer). Answers a c p) (sym e.1 ∙ check_faces_lem l n w.few_entries w.few_vertices) (given e.0)
@@ -169,13 +169,13 @@ module _ (l : List ℤ) (n : ℕ) where
   row_code (suc (suc zero)) p r = subst (λ (a : CheckAnswer). Answers a 2 p) (check_vertices l n r.0 r.1) (refl, sym r.2)
   row_code (suc (suc (suc zero))) p r =
       let s = r.1 in
-      answers_at r.0 s.face s.faulty (Fault·.Outside s.place) (out s.place s.inside s.out s.first) 3 p (λ rest. (refl, sym s.position))
+      answers_at r.0 s.face s.faulty (Err (Fault·.Outside s.place)) (out s.place s.inside s.out s.first) 3 p (λ rest. (refl, sym s.position))
   row_code (suc (suc (suc (suc zero)))) p r =
       let s = r.1 in
-      answers_at r.0 s.face s.faulty Fault·.Short (few s.none_out s.short) 4 p (λ rest. (refl, sym s.position))
+      answers_at r.0 s.face s.faulty (Err Fault·.Short) (few s.none_out s.short) 4 p (λ rest. (refl, sym s.position))
   row_code (suc (suc (suc (suc (suc zero))))) p r =
       let s = r.1 in
-      answers_at r.0 s.face s.faulty (Fault·.Repeated s.place) (twice s.place s.none_out s.long s.inside s.again s.first) 5 p (λ rest. (refl, sym s.position))
+      answers_at r.0 s.face s.faulty (Err (Fault·.Repeated s.place)) (twice s.place s.none_out s.long s.inside s.again s.first) 5 p (λ rest. (refl, sym s.position))
   row_code (suc (suc (suc (suc (suc (suc c)))))) p r = absurd r
 
   -- a code is given with its place exactly when its row of the table says so
@@ -197,11 +197,11 @@ unfolding check_faces
 counted_faces l n [] = all
 counted_faces l n (f ∷ fs) = go (face_fault n f.entries) (counted_faces l n fs)
   where
-    go : (g : FaceFault) → Counted l (check_faces n fs (sound l)) → Counted l (by_fault f.start g (check_faces n fs (sound l)))
-    go Fault·.Sound c = c
-    go (Fault·.Outside i) c = zeros 2 (f.start + i)
-    go Fault·.Short c = zeros 3 f.start
-    go (Fault·.Repeated i) c = zeros 4 (f.start + i)
+    go : (g : Result (Unit {0}) FaceFault) → Counted l (check_faces n fs (sound l)) → Counted l (by_fault f.start g (check_faces n fs (sound l)))
+    go (Ok _) c = c
+    go (Err (Fault·.Outside i)) c = zeros 2 (f.start + i)
+    go (Err Fault·.Short) c = zeros 3 f.start
+    go (Err (Fault·.Repeated i)) c = zeros 4 (f.start + i)
 
 counted : (l : List ℤ) (n : ℕ) → Counted l (check_of l n)
 counted l n = go (dec_lt max_entries (length l)) (dec_lt max_vertices n)

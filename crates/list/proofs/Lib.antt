@@ -9,3 +9,5 @@ pub mod Facewise
 pub mod Given
 pub mod Rejoined
 pub mod Bench
+pub mod Told
+pub mod Passed

@@ -1,6 +1,6 @@
 -- Laws of the repeat rule: which vertices have been seen, the first repeat from a place on, and the flags that tell it.
-use Prim.Native.Nat.{ℕ, zero, suc, ◌+◌, ◌-◌, ◌≤◌, ◌<◌}
-use mathlib.Core.Path.{◌≡◌, refl, sym, ◌∙◌, ap, subst, subst⁻¹}
+use Prim.Native.Nat.{ℕ, zero, suc, ◌+◌, ◌≤◌, ◌<◌}
+use mathlib.Core.Path.{◌≡◌, refl, sym, ◌∙◌, ap, subst⁻¹}
 use mathlib.Core.Bool.{Bool, true, false, cond, ◌||◌, true≢false, false≢true, or_comm, or_assoc, or-false, or-true}
 use mathlib.Core.List.{List, [], ◌∷◌, ◌++◌}
 use native.Mathlib.Numerals.{add-one}
@@ -8,12 +8,21 @@ use native.Mathlib.Omega.{arith}
 use native.Mathlib.Decide.{dec_lt}
 use borrow.Author.Tests.{eqb-true, eqb-false, eq-eqb}
 use lib.Dec.{eqb}
-use lib.IntN.{ℤ, pos}
+use lib.IntN.{ℤ, pos, negsuc}
 use lib.ListN.{length, get_or, take, drop, set, replicate, length-take, length-set, length-map, get_or-map, drop_of_length-le, length-replicate, get_or-replicate}
-use lib.Seq.{drop-cons, get_or-take, take-suc, set-set, set-get_or, get_or-set_same, get_or-set_other}
-use Rattle.list.specs.Faces.{is_natural, Naturals, num, vertices, first_where}
-use Rattle.list.specs.Check.{is_vertex, elem, repeat_after, first_repeat}
-use Rattle.list.specs.Flags.{seen_to, marked, Clear, Marked}
+use lib.Seq.{drop-cons, get_or-take, take-suc, get_or-set_same, get_or-set_other}
+use mir.Syntax.{w32}
+use mir.Val.{of_z, to_z, SFits}
+use Rattle.std.specs.Prelude.{Some, None}
+use Rattle.std.specs.List.{list_any}
+use Rattle.std.specs.Ordering.{int_eq}
+use Rattle.std.proofs.lemmas.List.{get_or_past, ext_get_or}
+use Rattle.std.proofs.lemmas.Bool.Decides.{same_from_decides, Decides-int_eq}
+use Rattle.list.specs.Faces.{is_natural, Naturals, num, vertices, place_or_none}
+use Rattle.list.specs.Check.{elem, repeat_after, first_repeat}
+use Rattle.list.proofs.First.{placed, unplaced}
+use Rattle.list.proofs.Signs.{passed_on}
+use Rattle.list.specs.Flags.{seen_to, marked, Clear, SetWithin}
 
 pub vertex_of : (l : List ℤ) (i : ℕ) → get_or (vertices l) i 0 ≡ num (get_or l i (pos 0))
 vertex_of l i = get_or-map num l i (pos 0)
@@ -30,23 +39,6 @@ module _ (v : ℕ) where
   pub elem-append : (xs ys : List ℕ) → elem v (xs ++ ys) ≡ (elem v xs || elem v ys)
   elem-append [] ys = refl
   elem-append (x ∷ xs) ys = rw (elem-append xs ys) (sym (or_assoc (eqb v x) (elem v xs) (elem v ys)))
-
-  -- a vertex is in a part exactly when it has a place there
-  pub placed : (l : List ℤ) → first_where (is_vertex v) l < length l → elem v (vertices l) ≡ true
-  placed [] h = absurd (omega arith)
-  placed (x ∷ xs) h = go (placed xs) (eqb v (num x)) h
-    where
-      go : (first_where (is_vertex v) xs < length xs → elem v (vertices xs) ≡ true) → (b : Bool) → cond b 0 (suc (first_where (is_vertex v) xs)) < suc (length xs) → (b || elem v (vertices xs)) ≡ true
-      go ih true h = refl
-      go ih false h = ih (omega arith)
-
-  pub unplaced : (l : List ℤ) → length l ≤ first_where (is_vertex v) l → elem v (vertices l) ≡ false
-  unplaced [] h = refl
-  unplaced (x ∷ xs) h = go (unplaced xs) (eqb v (num x)) h
-    where
-      go : (length xs ≤ first_where (is_vertex v) xs → elem v (vertices xs) ≡ false) → (b : Bool) → suc (length xs) ≤ cond b 0 (suc (first_where (is_vertex v) xs)) → (b || elem v (vertices xs)) ≡ false
-      go ih true h = absurd (omega arith)
-      go ih false h = ih (omega arith)
 
   -- the vertices seen are those before the place
   pub elem_seen : (vs : List ℕ) (j : ℕ) → j ≤ length vs → elem v (seen_to vs j) ≡ elem v (take j vs)
@@ -112,71 +104,97 @@ flag_tells fs (w ∷ ws) v h z = go (flag_tells fs ws v h z) (eqb v w) refl
     go before true e = rw (← (eqb-true v w e)) (get_or-set_same (marked fs ws) v 1 0 (rw marked_long h))
     go before false e = get_or-set_other (marked fs ws) w v 1 0 (eqb-false v w e) ∙ before
 
--- setting the flag of a vertex that was not marked, and clearing it, changes nothing
-pub unmark_last : (fs vs : List ℕ) (v : ℕ) → v < length fs → get_or fs v 0 ≡ 0 → elem v vs ≡ false → set (marked fs (v ∷ vs)) v 0 ≡ marked fs vs
-unmark_last fs vs v h z e =
-    set-set (marked fs vs) v 1 0 ∙ subst (λ (k : ℕ). set (marked fs vs) v k ≡ marked fs vs) clear (set-get_or (marked fs vs) v 0)
-  where
-    clear : get_or (marked fs vs) v 0 ≡ 0
-    clear = rw (flag_tells fs vs v h z, e)
-
 pub clear_flag : (vs fs : List ℕ) → Clear vs fs → (v : ℕ) → v < length fs → get_or fs v 0 ≡ 0
 clear_flag vs fs c v h = subst⁻¹ (λ (l : List ℕ). get_or l v 0 ≡ 0) c.zeros (get_or-replicate (length fs) v 0 0 h)
 
--- the vertex v stands at place i of the face, and there is a flag for it, which was 0 at first
-module _ (vs fs : List ℕ) (c : Clear vs fs) (i v : ℕ) (h : i < length vs) (ev : v ≡ get_or vs i 0) where
+-- at place i no repeat has been passed, and the flags set are those of the vertices passed
+pub record Marking (l : List ℤ) (fs : List ℕ) (i : ℕ) (flags : List ℕ) : Type 0 where
+  pub unrepeated : Unrepeated (vertices l) i
+  pub set : flags ≡ marked fs (seen_to (vertices l) i)
+
+pub marking_start : {l : List ℤ} {fs : List ℕ} → Marking l fs 0 fs
+marking_start {l = l} {fs = fs} = record { unrepeated = unrepeated_start (vertices l); set = refl }
+
+-- a turn at place i, where the vertex v stands
+module _ {l : List ℤ} {fs : List ℕ} (c : Clear (vertices l) fs) {i v : ℕ} (h : i < length l) (f : SFits w32 (get_or l i (pos 0))) (e : v ≡ num (to_z w32 (of_z w32 (get_or l i (pos 0))))) {flags : List ℕ} (m : Marking l fs i flags) where
+  inside : i < length (vertices l)
+  inside = rw vertices_long h
+
+  stands : v ≡ get_or (vertices l) i 0
+  stands = passed_on l i v f e ∙ sym (vertex_of l i)
+
   vertex_room : v < length fs
-  vertex_room = rw ev (c.room i h)
+  vertex_room = rw stands (c.room i inside)
 
-  flag_first : get_or fs v 0 ≡ 0
-  flag_first = clear_flag vs fs c v vertex_room
+  -- its flag tells whether it has been seen
+  flag_seen : get_or flags v 0 ≡ cond (elem (get_or (vertices l) i 0) (seen_to (vertices l) i)) 1 0
+  flag_seen =
+      rw (m.set, ← stands) (flag_tells fs (seen_to (vertices l) i) v vertex_room (clear_flag (vertices l) fs c v vertex_room))
 
-  module _ (flags : List ℕ) (ef : flags ≡ marked fs (seen_to vs i)) where
-    flag_seen : get_or flags v 0 ≡ cond (elem v (seen_to vs i)) 1 0
-    flag_seen = rw ef (flag_tells fs (seen_to vs i) v vertex_room flag_first)
+  pub marking_room : v < length flags
+  marking_room = rw (m.set, marked_long) vertex_room
 
-    pub flag_room : v < length flags
-    flag_room = rw (ef, marked_long) vertex_room
-
-    pub flag_clear : get_or flags v 0 ≡ 0 → elem (get_or vs i 0) (seen_to vs i) ≡ false
-    flag_clear z = rw (← ev) (go (elem v (seen_to vs i)) (sym flag_seen ∙ z))
-      where
-        go : (b : Bool) → ◌≡◌ {A = ℕ} (cond b 1 0) 0 → b ≡ false
-        go true e = absurd (omega arith)
-        go false e = refl
-
-    pub flag_set : (get_or flags v 0 ≡ 0 → ⊥) → elem (get_or vs i 0) (seen_to vs i) ≡ true
-    flag_set z = rw (← ev) (go (elem v (seen_to vs i)) flag_seen)
-      where
-        go : (b : Bool) → get_or flags v 0 ≡ cond b 1 0 → b ≡ true
-        go true e = refl
-        go false e = absurd (z e)
-
-    pub flag_on : set flags v 1 ≡ marked fs (seen_to vs (i + 1))
-    flag_on = rw (ef, ev, add-one)
-
-  -- clearing the last flag that was set goes back one place
-  pub flag_back : (flags : List ℕ) → flags ≡ marked fs (seen_to vs (suc i)) → i < first_repeat vs → set flags v 0 ≡ marked fs (seen_to vs i)
-  flag_back flags ef p =
-      rw (ef, ← ev) (unmark_last fs (seen_to vs i) v vertex_room flag_first (rw ev (seen_not vs i h p)))
-
-pub marked_clear : (vs fs : List ℕ) (r : ℕ) → Marked vs fs r → Clear vs (replicate (length fs) 0)
-marked_clear vs fs r m = record { zeros = rw length-replicate; room = λ j h. rw length-replicate (m.room j h) }
-
-module _ (vs zs flags : List ℕ) (c : Clear vs zs) (j v : ℕ) (some : 0 < j) (h : j ≤ length vs) (ev : v ≡ get_or vs (j - 1) 0) (ef : flags ≡ marked zs (seen_to vs j)) where
-  pub unmark_room : v < length flags
-  unmark_room = rw (ef, marked_long, ev) (c.room (j - 1) (omega arith))
-
-  pub unmark_turn : j ≤ first_repeat vs → set flags v 0 ≡ marked zs (seen_to vs (j - 1))
-  unmark_turn p =
-      flag_back vs zs c (j - 1) v (omega arith) ev flags (ef ∙ ap (λ k. marked zs (seen_to vs k)) last) (omega arith)
+  marking_found : (get_or flags v 0 ≡ 0 → ⊥) → i ≡ first_repeat (vertices l)
+  marking_found z = unrepeated_found (vertices l) i inside (go (elem (get_or (vertices l) i 0) (seen_to (vertices l) i)) flag_seen) m.unrepeated
     where
-      last : j ≡ suc (j - 1)
-      last = omega arith
+      go : (b : Bool) → get_or flags v 0 ≡ cond b 1 0 → b ≡ true
+      go true e = refl
+      go false e = absurd (z e)
 
-pub unmark_done : (vs zs flags : List ℕ) (j : ℕ) → j ≤ 0 → flags ≡ marked zs (seen_to vs j) → flags ≡ zs
-unmark_done vs zs flags zero h e = e
-unmark_done vs zs flags (suc j) h e = absurd (omega arith)
+  pub marking_repeat : (get_or flags v 0 ≡ 0 → ⊥) → Some i ≡ place_or_none l (first_repeat (vertices l))
+  marking_repeat z = placed l i (first_repeat (vertices l)) h (marking_found z)
+
+  pub marking_before : (get_or flags v 0 ≡ 0 → ⊥) → flags ≡ marked fs (seen_to (vertices l) (first_repeat (vertices l)))
+  marking_before z = m.set ∙ ap (λ r. marked fs (seen_to (vertices l) r)) (marking_found z)
+
+  pub marking_turn : get_or flags v 0 ≡ 0 → Marking l fs (i + 1) (set flags v 1)
+  marking_turn z =
+      record {
+        unrepeated = unrepeated_turn (vertices l) i inside (go (elem (get_or (vertices l) i 0) (seen_to (vertices l) i)) (sym flag_seen ∙ z)) m.unrepeated;
+        set = rw (m.set, stands, add-one);
+      }
+    where
+      go : (b : Bool) → ◌≡◌ {A = ℕ} (cond b 1 0) 0 → b ≡ false
+      go true e = absurd (omega arith)
+      go false e = refl
+
+-- the flags set on the way to place r are those of the vertices before it
+pub marked_within : (l : List ℤ) (fs : List ℕ) (r : ℕ) → r ≤ length l → Clear (vertices l) fs → SetWithin (vertices (take r l)) (marked fs (seen_to (vertices l) r))
+marked_within l fs r h c =
+    record {
+      others = λ v e. others v e (dec_lt v (length fs));
+      room = λ j q. room j q;
+    }
+  where
+    seen : (v : ℕ) → elem v (vertices (take r l)) ≡ false → elem v (seen_to (vertices l) r) ≡ false
+    seen v e = elem_seen v (vertices l) r (rw vertices_long h) ∙ rw (← (vertices_take l r)) e
+
+    others : (v : ℕ) → elem v (vertices (take r l)) ≡ false → Dec (v < length fs) → get_or (marked fs (seen_to (vertices l) r)) v 0 ≡ 0
+    others v e (yes q) =
+        rw (flag_tells fs (seen_to (vertices l) r) v q (clear_flag (vertices l) fs c v q), seen v e)
+    others v e (no q) =
+        get_or_past (marked fs (seen_to (vertices l) r)) v 0 (omega (arith, marked_long fs (seen_to (vertices l) r)))
+
+    room : (j : ℕ) → j < length (vertices (take r l)) → get_or (vertices (take r l)) j 0 < length (marked fs (seen_to (vertices l) r))
+    room j q =
+        let below : j < r = omega (arith, vertices_long (take r l), length-take r l) in
+        rw (marked_long, vertices_take, get_or-take r (vertices l) j 0 below) (c.room j (omega (arith, vertices_long l)))
+
+-- clearing a vertex's flag leaves the flags of the others
+pub clear_first : (v : ℕ) (vs fs : List ℕ) → SetWithin (v ∷ vs) fs → SetWithin vs (set fs v 0)
+clear_first v vs fs w =
+    record {
+      others = λ u e. go u e (eqb u v) refl;
+      room = λ j h. rw length-set (w.room (suc j) (omega arith));
+    }
+  where
+    go : (u : ℕ) → elem u vs ≡ false → (b : Bool) → eqb u v ≡ b → get_or (set fs v 0) u 0 ≡ 0
+    go u e true q = rw (eqb-true u v q) (get_or-set_same fs v 0 0 (w.room 0 (omega arith)))
+    go u e false q = get_or-set_other fs v u 0 0 (eqb-false u v q) ∙ w.others u (rw (q, e))
+
+pub clear_last : (fs : List ℕ) → SetWithin [] fs → fs ≡ replicate (length fs) 0
+clear_last fs w =
+    ext_get_or 0 fs (replicate (length fs) 0) (sym (length-replicate (length fs) 0)) (λ i h. w.others i refl ∙ sym (get_or-replicate (length fs) i 0 0 h))
 
 pub repeat_fits : (seen vs : List ℕ) → repeat_after seen vs ≤ length vs
 repeat_fits seen [] = omega arith
@@ -186,33 +204,39 @@ repeat_fits seen (v ∷ vs) = go (elem v seen) (repeat_fits (v ∷ seen) vs)
     go true h = omega arith
     go false h = omega arith
 
-module _ (vs fs flags : List ℕ) (r : ℕ) (c : Clear vs fs) (er : r ≡ first_repeat vs) (ef : flags ≡ marked fs (seen_to vs r)) where
-  as_long : length flags ≡ length fs
-  as_long = ap length ef ∙ marked_long fs (seen_to vs r)
+-- natural entries are equal exactly where they are one vertex
+same_entries : (x y : ℤ) → is_natural x ≡ true → is_natural y ≡ true → int_eq y x ≡ eqb (num x) (num y)
+same_entries (pos a) (pos b) p q =
+    same_from_decides (int_eq (pos b) (pos a)) (eqb a b) (Decides-int_eq (pos b) (pos a)) (λ e. ap pos (sym (eqb-true a b e)), λ e. eq-eqb a b (cc))
+same_entries (pos a) (negsuc b) p q = absurd (false≢true q)
+same_entries (negsuc a) y p q = absurd (false≢true p)
 
-  pub clear_marked : Marked vs flags r
-  clear_marked =
-      record {
-        inside = omega (arith, repeat_fits [] vs);
-        unrepeated = omega arith;
-        flags = ef ∙ ap (λ (zs : List ℕ). marked zs (seen_to vs r)) (c.zeros ∙ ap (λ k. replicate k 0) (sym as_long));
-        room = λ j h. rw as_long (c.room j h);
-      }
+entry_among : (x : ℤ) (r : List ℤ) → is_natural x ≡ true → Naturals r → list_any (λ y. int_eq y x) r ≡ elem (num x) (vertices r)
+entry_among x [] p n = refl
+entry_among x (y ∷ ys) p n =
+    rw (same_entries x y p (n 0 (omega arith)), entry_among x ys p (λ i h. n (suc i) (omega arith)))
 
-  pub clear_again : (after : List ℕ) → after ≡ replicate (length flags) 0 → after ≡ fs
-  clear_again after e = e ∙ ap (λ k. replicate k 0) as_long ∙ sym c.zeros
-
--- what looking in the part before place j finds
 -- the entries before a place are natural where all are
-pub naturals_before : (l : List ℤ) (j : ℕ) → Naturals l → Naturals (take j l)
+naturals_before : (l : List ℤ) (j : ℕ) → Naturals l → Naturals (take j l)
 naturals_before l j h i k =
     let q : i < j = omega (arith, length-take j l) in
     ap is_natural (get_or-take j l i (pos 0) q) ∙ h i (omega (arith, length-take j l))
 
-pub looked : (l : List ℤ) (j v : ℕ) → j ≤ length l → v ≡ num (get_or l j (pos 0)) → elem v (vertices (take j l)) ≡ elem (get_or (vertices l) j 0) (seen_to (vertices l) j)
-looked l j v h e =
-    rw (e, ← (vertex_of l j), vertices_take l j)
-    (sym (elem_seen (get_or (vertices l) j 0) (vertices l) j (rw vertices_long h)))
+-- looking for an entry in the part before it tells whether its vertex has been seen
+pub looked : (l : List ℤ) (j : ℕ) → j < length l → Naturals l → list_any (λ y. int_eq y (get_or l j (pos 0))) (take j l) ≡ elem (get_or (vertices l) j 0) (seen_to (vertices l) j)
+looked l j h n =
+    rw (entry_among (get_or l j (pos 0)) (take j l) (n j h) (naturals_before l j n), ← (vertex_of l j), vertices_take l j)
+    (sym (elem_seen (get_or (vertices l) j 0) (vertices l) j (rw vertices_long (omega arith))))
+
+-- what the place of the first repeat is, where a vertex has been seen and where none is left
+module _ (l : List ℤ) where
+  pub repeat_placed : (i : ℕ) → i < length l → elem (get_or (vertices l) i 0) (seen_to (vertices l) i) ≡ true → Unrepeated (vertices l) i → Some i ≡ place_or_none l (first_repeat (vertices l))
+  repeat_placed i h e u =
+      placed l i (first_repeat (vertices l)) h (unrepeated_found (vertices l) i (rw vertices_long h) e u)
+
+  pub repeat_unplaced : (i : ℕ) → length l ≤ i → Unrepeated (vertices l) i → None ≡ place_or_none l (first_repeat (vertices l))
+  repeat_unplaced i h u =
+      unplaced l (first_repeat (vertices l)) (omega (arith, unrepeated_end (vertices l) i (rw vertices_long h) u))
 
 -- a vertex that has been seen stands at an earlier place, and the other way round
 pub seen_index : (vs : List ℕ) (j v : ℕ) → elem v (seen_to vs j) ≡ true → (i : ℕ) × (i < j) × (get_or vs i 0 ≡ v)

@@ -1,6 +1,6 @@
--- Laws of runs and of the cursor's steps: what a list is from one position on.
-use Prim.Native.Nat.{ℕ, suc, ◌+◌, ◌-◌, ◌≤◌, ◌<◌}
-use mathlib.Core.Path.{◌≡◌, refl, sym, ◌∙◌, ap, ap₂, subst₃}
+-- Laws of runs and faces: what a list is from one position on, and where its faces stand.
+use Prim.Native.Nat.{ℕ, zero, suc, ◌+◌, ◌-◌, ◌≤◌, ◌<◌}
+use mathlib.Core.Path.{◌≡◌, refl, ◌∙◌, ap, subst⁻¹}
 use mathlib.Core.Bool.{Bool, true, false}
 use mathlib.Core.List.{List, [], ◌∷◌}
 use native.Mathlib.Numerals.{add-one}
@@ -10,10 +10,9 @@ use native.Mathlib.Nat.{add-suc, add-sub_cancel_left}
 use native.Mathlib.Decide.{dec_lt}
 use lib.ListN.{length, take, drop, length-drop, drop_of_length-le}
 use lib.Seq.{drop-drop, length-take-le, get_or-take}
-use Rattle.list.specs.Faces.{is_end, run_length, NoEnd, runs, faces_from, step_at}
+use Rattle.list.specs.Faces.{is_end, run_length, NoEnd, runs, Face, faces_from, faces}
+use Rattle.list.specs.Cursor.{Face_at, step_at}
 use Rattle.list.proofs.First.{first_fits, first_before}
-use Rattle.list.specs.declared.Cursor.{Cursor}
-use Rattle.list.specs.declared.Step.TheVariants as Step·
 
 -- a list that isn't empty is its first run, then the runs behind the -1 that ends it
 pub runs_first : (l : List ℤ) → 0 < length l → runs l ≡ take (run_length l) l ∷ runs (drop (suc (run_length l)) l)
@@ -39,67 +38,48 @@ module _ (l : List ℤ) (i : ℕ) (h : i < length l) where
   pub run_long : length (take (run_length (drop i l)) (drop i l)) ≡ run_length (drop i l)
   run_long = length-take-le (run_length (drop i l)) (drop i l) (first_fits is_end (drop i l))
 
-  pub step_face : step_at l i ≡ Step·.Face i (i + run_length (drop i l)) (record { at = i + run_length (drop i l) + 1 })
-  step_face = rw (runs_split, run_long)
+  -- the faces from position i are the face there, then those behind its -1
+  pub left_face : faces_from i (runs (drop i l)) ≡ record { start = i; entries = take (run_length (drop i l)) (drop i l) } ∷ faces_from (i + run_length (drop i l) + 1) (runs (drop (i + run_length (drop i l) + 1) l))
+  left_face = rw (runs_split, run_long)
 
-pub step_done : (l : List ℤ) (i : ℕ) → length l ≤ i → step_at l i ≡ Step·.Done
-step_done l i h = rw (drop_of_length-le l h)
+  pub left_face_to : (e : ℕ) → e ≡ i + run_length (drop i l) → faces_from i (runs (drop i l)) ≡ record { start = i; entries = take (e - i) (drop i l) } ∷ faces_from (e + 1) (runs (drop (e + 1) l))
+  left_face_to e q = rw (q, add-sub_cancel_left i (run_length (drop i l))) left_face
 
--- the cursor at position i answered the face from s to e with the next cursor c
-pub record Stepped (l : List ℤ) (i s e : ℕ) (c : Cursor) : Type 0 where
-  pub here : i < length l
-  pub start : s ≡ i
-  pub order : s ≤ e
-  pub within : e ≤ length l
-  pub next : c.at ≡ e + 1
-  pub run : e ≡ s + run_length (drop i l)
-  pub split : runs (drop i l) ≡ take (e - s) (drop s l) ∷ runs (drop c.at l)
-  pub long : length (take (e - s) (drop s l)) ≡ e - s
+  pub step_face : (e : ℕ) → e ≡ i + run_length (drop i l) → Face_at i (i + length (take (e - i) (drop i l))) (e + 1) ≡ step_at l i
+  step_face e q = rw (q, add-sub_cancel_left i (run_length (drop i l)), runs_split, run_long) refl
 
-stepped_to : (l : List ℤ) (i : ℕ) → i < length l → Stepped l i i (i + run_length (drop i l)) (record { at = i + run_length (drop i l) + 1 })
-stepped_to l i h =
+pub left_done : (l : List ℤ) (i : ℕ) → length l ≤ i → faces_from i (runs (drop i l)) ≡ []
+left_done l i h = rw (drop_of_length-le l h)
+
+-- the face f stands in the list l
+pub record Within (l : List ℤ) (f : Face) : Type 0 where
+  pub start : f.start < length l
+  pub end : f.start + length f.entries ≤ length l
+  pub part : take (length f.entries) (drop f.start l) ≡ f.entries
+  pub no_end : NoEnd f.entries
+
+abbrev pub AllWithin : List ℤ → List Face → Type 0
+AllWithin l [] = Unit {0}
+AllWithin l (f ∷ fs) = Within l f × AllWithin l fs
+
+within_here : (l : List ℤ) (i : ℕ) → i < length l → Within l (record { start = i; entries = take (run_length (drop i l)) (drop i l) })
+within_here l i h =
     record {
-      here = h;
-      start = refl;
-      order = omega arith;
-      within = run_inside l i h;
-      next = refl;
-      run = refl;
-      split = rw (add-sub_cancel_left i (run_length (drop i l))) (runs_split l i h);
-      long = rw (add-sub_cancel_left i (run_length (drop i l))) (run_long l i h);
+      start = h;
+      end = rw (run_long l i h) (run_inside l i h);
+      part = rw (run_long l i h);
+      no_end = λ j q. ap is_end (get_or-take (run_length (drop i l)) (drop i l) j (pos 0) (rw (run_long l i h) at q)) ∙ first_before is_end (drop i l) j (rw (run_long l i h) at q);
     }
 
-pub step_stepped : (l : List ℤ) (i s e : ℕ) (c : Cursor) → step_at l i ≡ Step·.Face s e c → Stepped l i s e c
-step_stepped l i s e c q = go (dec_lt i (length l))
+-- so does each of the faces from a position on; at most n entries are behind it
+within_from : (n : ℕ) (l : List ℤ) (i : ℕ) → length l ≤ i + n → AllWithin l (faces_from i (runs (drop i l)))
+within_from zero l i h = subst⁻¹ (AllWithin l) (left_done l i (omega arith)) tt
+within_from (suc n) l i h = go (within_from n l) (dec_lt i (length l))
   where
-    go : Dec (i < length l) → Stepped l i s e c
-    go (yes h) =
-        let from : i ≡ s = cc (step_face l i h) in
-        let to : i + run_length (drop i l) ≡ e = cc (step_face l i h) in
-        let then : record { at = i + run_length (drop i l) + 1 } ≡ c = cc (step_face l i h) in
-        subst₃ (λ s e c. Stepped l i s e c) from to then (stepped_to l i h)
-    go (no n) = let z : ◌≡◌ {A = ℕ} 0 1 = cc (step_done l i (omega arith)) in absurd (omega arith)
+    go : ((j : ℕ) → length l ≤ j + n → AllWithin l (faces_from j (runs (drop j l)))) → Dec (i < length l) → AllWithin l (faces_from i (runs (drop i l)))
+    go rest (yes q) =
+        subst⁻¹ (AllWithin l) (left_face l i q) (within_here l i q, rest (i + run_length (drop i l) + 1) (omega arith))
+    go rest (no q) = subst⁻¹ (AllWithin l) (left_done l i (omega arith)) tt
 
-pub step_last : (l : List ℤ) (i : ℕ) → step_at l i ≡ Step·.Done → drop i l ≡ []
-step_last l i q = go (dec_lt i (length l))
-  where
-    go : Dec (i < length l) → drop i l ≡ []
-    go (yes h) = let z : ◌≡◌ {A = ℕ} 0 1 = cc (step_face l i h) in absurd (omega arith)
-    go (no n) = drop_of_length-le l {i = i} (omega arith)
-
--- the faces from a position on are the face that the cursor answered there, then those from the next cursor on
-pub faces_split : (l : List ℤ) (i s e : ℕ) (c : Cursor) → Stepped l i s e c → faces_from i (runs (drop i l)) ≡ record { start = s; entries = take (e - s) (drop s l) } ∷ faces_from c.at (runs (drop c.at l))
-faces_split l i s e c t =
-    rw t.split
-    (ap₂ (λ a b. record { start = a; entries = take (e - s) (drop s l) } ∷ faces_from b (runs (drop c.at l))) (sym t.start) then)
-  where
-    then : i + length (take (e - s) (drop s l)) + 1 ≡ c.at
-    then = omega (arith, t.here, t.start, t.order, t.next, t.long)
-
--- the face at the cursor ends before its -1
-pub stepped_no_end : (l : List ℤ) (i s e : ℕ) (c : Cursor) → Stepped l i s e c → NoEnd (take (e - s) (drop s l))
-stepped_no_end l i s e c t j h =
-    let k : j < e - s = omega (arith, t.long) in
-    let same : drop i l ≡ drop s l = rw t.start in
-    let q : j < run_length (drop s l) = omega (arith, t.run, ap run_length same) in
-    ap is_end (get_or-take (e - s) (drop s l) j (pos 0) k) ∙ first_before is_end (drop s l) j q
+pub all_within : (l : List ℤ) → AllWithin l (faces l)
+all_within l = within_from (length l) l 0 (omega arith)

@@ -1,36 +1,53 @@
 -- Laws of showing a face: its span from a position on, and that the part of the list there is the face.
 use Prim.Native.Nat.{ℕ, zero, suc, ◌+◌, ◌-◌, ◌≤◌, ◌<◌}
-use mathlib.Core.Path.{◌≡◌, refl, sym, ◌∙◌, ap}
+use mathlib.Core.Path.{◌≡◌, refl, sym, ◌∙◌, ap, subst⁻¹}
 use mathlib.Core.List.{List, [], ◌∷◌, head-eq_of_cons-eq, tail-eq_of_cons-eq}
 use native.Mathlib.Omega.{arith}
 use native.Mathlib.Nat.{add-sub_cancel_left}
 use native.Mathlib.Decide.{dec_lt}
 use lib.IntN.{ℤ}
+use Rattle.std.specs.Prelude.{Some, None}
+use Rattle.std.specs.List.{slice_get}
+use Rattle.std.proofs.lemmas.Option.{same_Some}
 use lib.ListN.{length, take, drop, drop_of_length-le}
-use Rattle.list.specs.Faces.{runs, run_length, faces_from}
+use Rattle.list.specs.Faces.{Face, faces, runs, run_length, faces_from}
 use Rattle.list.specs.Show.{span_in, span_of, face_in, face_of}
-use Rattle.list.specs.declared.Cursor.{Cursor}
 use Rattle.list.specs.declared.Span.{Span}
-use Rattle.list.proofs.Runs.{Stepped, faces_split, runs_split, run_inside, run_long}
+use Rattle.list.proofs.Runs.{Within, AllWithin, all_within, runs_split, run_inside, run_long}
 
-module _ (l : List ℤ) (i s e : ℕ) (c : Cursor) (t : Stepped l i s e c) where
-  pub span_here : (k : ℕ) → k ≡ 0 → record { start = s; end = e } ≡ span_in (faces_from i (runs (drop i l))) k
-  span_here k z =
-      rw (z, faces_split l i s e c t)
-      (λ j. record { start = s; end = to j })
-    where
-      to : e ≡ s + length (take (e - s) (drop s l))
-      to = omega (arith, t.order, t.long)
+module _ (l : List ℤ) where
+  span_in_got : (fs : List Face) (k : ℕ) (f : Face) → Some f ≡ slice_get fs k → (record { start = f.start; end = f.start + length f.entries } ≡ span_in fs k) × (f.entries ≡ face_in fs k)
+  span_in_got [] k f e = absurd (cc e)
+  span_in_got (g ∷ fs) zero f e = rw (same_Some f g e) (refl, refl)
+  span_in_got (g ∷ fs) (suc k) f e = span_in_got fs k f e
 
-  pub span_later : (k : ℕ) → (k ≡ 0 → ⊥) → span_in (faces_from c.at (runs (drop c.at l))) (k - 1) ≡ span_in (faces_from i (runs (drop i l))) k
-  span_later zero n = absurd (n refl)
-  span_later (suc k) n = rw (faces_split l i s e c t) (ap (span_in (faces_from c.at (runs (drop c.at l)))) less)
-    where
-      less : suc k - 1 ≡ k
-      less = omega arith
+  span_in_none : (fs : List Face) (k : ℕ) → None ≡ slice_get fs k → (record { start = 0; end = 0 } ≡ span_in fs k) × ([] ≡ face_in fs k)
+  span_in_none [] k e = (refl, refl)
+  span_in_none (g ∷ fs) zero e = absurd (cc e)
+  span_in_none (g ∷ fs) (suc k) e = span_in_none fs k e
 
-pub span_none : (l : List ℤ) (i k : ℕ) → drop i l ≡ [] → record { start = 0; end = 0 } ≡ span_in (faces_from i (runs (drop i l))) k
-span_none l i k e = rw e
+  within_got : (fs : List Face) (k : ℕ) (f : Face) → AllWithin l fs → Some f ≡ slice_get fs k → Within l f
+  within_got [] k f w e = absurd (cc e)
+  within_got (g ∷ fs) zero f w e = subst⁻¹ (Within l) (same_Some f g e) w.0
+  within_got (g ∷ fs) (suc k) f w e = within_got fs k f w.1 e
+
+  module _ (k : ℕ) where
+    pub span_got : (f : Face) → Some f ≡ slice_get (faces l) k → record { start = f.start; end = f.start + length f.entries } ≡ span_of l k
+    span_got f e = (span_in_got (faces l) k f e).0
+
+    pub face_got : (f : Face) → Some f ≡ slice_get (faces l) k → f.entries ≡ face_of l k
+    face_got f e = (span_in_got (faces l) k f e).1
+
+    pub got_fits : (f : Face) → Some f ≡ slice_get (faces l) k → f.start + length f.entries ≤ length l
+    got_fits f e = (within_got (faces l) k f (all_within l) e).end
+
+    pub span_missing : None ≡ slice_get (faces l) k → record { start = 0; end = 0 } ≡ span_of l k
+    span_missing e = (span_in_none (faces l) k e).0
+
+    pub face_missing : None ≡ slice_get (faces l) k → [] ≡ face_of l k
+    face_missing e = (span_in_none (faces l) k e).1
+
+pub ruleset shown_cases = (span_got, face_got, got_fits, span_missing, face_missing)
 
 -- a span lies within the list, and the list's part there is the face
 pub record Shown (l : List ℤ) (p : Span) (r : List ℤ) : Type 0 where

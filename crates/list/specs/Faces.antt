@@ -1,23 +1,21 @@
 -- The faces and corners of an index list (document 01, "The list and its numbers" and "Showing one face").
 --
---   is_end x         the entry x is -1, which ends a face
---   runs l           the runs between entries of -1; a last run counts only if it isn't empty
---   first_where p l  the place of the first entry that p holds of; l's length if there is none
---   run_length l     the number of entries before the first -1
---   NoEnd r          no entry of r is -1
---   is_natural x     the entry x is not negative
---   Naturals r       no entry of r is negative
---   Face             where a face starts, as a position among all entries, and its entries without its -1
---   faces l          the faces of l, numbered from 0 in list order
---   corners l        the entries other than -1, in list order
---   num x            the entry x as a vertex: a natural number
---   vertices r       the entries of a face as vertices
---   step_at l i      what the cursor at position i answers: the face that starts there with the next cursor, or the end
---   rejoined rs e    the runs rs put together again with a -1 behind each, behind the last one only if e says so
---   ends_closed l    the last entry of l is -1
-use Rattle.std.specs.Prelude.{ℕ, zero, suc, ◌+◌, ◌<◌, ◌≡◌, List, [], ◌∷◌, ◌++◌, map, Bool, true, false, cond, ℤ, pos, negsuc, length, get_or, drop}
-use Rattle.list.specs.declared.Step.{Step}
-use Rattle.list.specs.declared.Step.TheVariants as Step·
+--   is_end x           the entry x is -1, which ends a face
+--   runs l             the runs between entries of -1; a last run counts only if it isn't empty
+--   first_where p l    the place of the first entry that p holds of; l's length if there is none
+--   place_or_none l i  the place i of the list l; none where i is not below l's length
+--   run_length l       the number of entries before the first -1
+--   NoEnd r            no entry of r is -1
+--   is_natural x       the entry x is not negative
+--   Naturals r         no entry of r is negative
+--   Face               where a face starts, as a position among all entries, and its entries without its -1
+--   faces l            the faces of l, numbered from 0 in list order
+--   corners l          the entries other than -1, in list order
+--   num x              the entry x as a vertex: a natural number
+--   vertices r         the entries of a face as vertices
+--   rejoined rs e      the runs rs put together again with a -1 behind each, behind the last one only if e says so
+--   ends_closed l      the last entry of l is -1
+use Rattle.std.specs.Prelude.{ℕ, zero, suc, ◌+◌, ◌<◌, ◌≡◌, List, [], ◌∷◌, ◌++◌, map, Bool, true, false, cond, ltb, ℤ, pos, negsuc, length, get_or, Option, Some, None}
 
 abbrev pub is_end : ℤ → Bool
 is_end (pos k) = false
@@ -36,6 +34,9 @@ runs (x ∷ xs) = let rs = runs xs in cond (is_end x) ([] ∷ rs) (push x rs)
 abbrev pub first_where : (ℤ → Bool) → List ℤ → ℕ
 first_where p [] = 0
 first_where p (x ∷ xs) = let later = first_where p xs in cond (p x) 0 (suc later)
+
+abbrev pub place_or_none : {A : Type 0} → List A → ℕ → Option ℕ
+place_or_none l i = cond (ltb i (length l)) (Some i) None
 
 abbrev pub run_length : List ℤ → ℕ
 run_length l = first_where is_end l
@@ -72,13 +73,6 @@ num (negsuc k) = 0
 
 abbrev pub vertices : List ℤ → List ℕ
 vertices r = map num r
-
-abbrev pub step_of : ℕ → List (List ℤ) → Step
-step_of i [] = Step·.Done
-step_of i (r ∷ rs) = Step·.Face i (i + length r) (record { at = i + length r + 1 })
-
-abbrev pub step_at : List ℤ → ℕ → Step
-step_at l i = step_of i (runs (drop i l))
 
 -- the entry that ends a face
 abbrev pub end : ℤ

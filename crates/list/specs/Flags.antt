@@ -3,10 +3,10 @@
 --   seen_to vs j     the first j vertices of vs, the last of them in front
 --   marked fs vs     the flags fs with those of vs set
 --   Flags n fs       the flags fs serve n vertices, and are all 0
---   Marked vs fs r   of the flags fs those of the first r vertices of vs are set
+--   SetWithin vs fs  of the flags fs none but those of vertices of vs are set, and there is one for each of vs
 --   Clear vs fs      the flags fs are all 0, and there is one for each vertex of vs
-use Rattle.std.specs.Prelude.{ℕ, zero, suc, ◌≤◌, ◌<◌, ◌≡◌, List, [], ◌∷◌, length, get_or, set, replicate}
-use Rattle.list.specs.Check.{first_repeat}
+use Rattle.std.specs.Prelude.{ℕ, zero, suc, ◌≤◌, ◌<◌, ◌≡◌, List, [], ◌∷◌, false, length, get_or, set, replicate}
+use Rattle.list.specs.Check.{elem}
 
 abbrev pub seen_to : List ℕ → ℕ → List ℕ
 seen_to vs zero = []
@@ -26,9 +26,6 @@ pub record Clear (vs fs : List ℕ) : Type 0 where
   pub zeros : fs ≡ replicate (length fs) 0
   pub room : (j : ℕ) → j < length vs → get_or vs j 0 < length fs
 
--- the flags set are those of the first r vertices, none of which is a repeat; each has a flag
-pub record Marked (vs fs : List ℕ) (r : ℕ) : Type 0 where
-  pub inside : r ≤ length vs
-  pub unrepeated : r ≤ first_repeat vs
-  pub flags : fs ≡ marked (replicate (length fs) 0) (seen_to vs r)
+pub record SetWithin (vs fs : List ℕ) : Type 0 where
+  pub others : (v : ℕ) → elem v vs ≡ false → get_or fs v 0 ≡ 0
   pub room : (j : ℕ) → j < length vs → get_or vs j 0 < length fs

@@ -1,6 +1,8 @@
 pub mod Limits
 pub mod Faces
+pub mod Cursor
 pub mod Check
+pub mod Told
 pub mod Show
 pub mod Codes
 pub mod Flags

@@ -3,8 +3,8 @@
 --   max_entries    the most entries that a list may have
 --   max_vertices   the greatest vertex count n
 --
--- The code names the same two numbers as associated constants of its list type. A clause cannot name such a constant, so
--- `IndexList::max_entries` and `IndexList::max_vertices` promise that the two are these.
+-- The code names the same two numbers as associated constants of its list type; `IndexList::max_entries` and
+-- `IndexList::max_vertices` promise that the two are these.
 use Rattle.std.specs.Prelude.{ℕ}
 
 abbrev pub max_entries : ℕ

@@ -1,40 +1,37 @@
-// Signed entries, read at a position of a list. These functions, `vertex_at` and `end_at` alone look at an entry's sign.
-ghost use Rattle.std.specs.Prelude.{◌≡◌, true, false, ◌+◌, ◌<◌, length, get_or, drop, pos};
-ghost use Rattle.list.specs.Faces.{is_end, is_natural, num, run_length};
+// One signed entry of a list.
+ghost use Rattle.std.specs.Prelude.{◌≡◌};
+ghost use Rattle.list.specs.Faces.{is_end, num, run_length};
 ghost use Rattle.list.specs.Check.{outside};
 
-// Whether the entry at i, which is not -1, is below -1 or at least n.
-pub fn outside_at(l: &[i32], i: usize, n: usize) -> bool
-    requires { (i < length l.now) × (is_end (get_or l.now i (pos 0)) ≡ false) }
-    ensures { result ≡ outside n (get_or l.now i (pos 0)) }
+// Whether the entry is the -1 that ends a face.
+pub fn is_end(entry: i32) -> bool
+    ensures { result ≡ is_end entry }
 {
-    let x = l[i];
-    if x < 0 {
-        return true;
-    }
-    n <= x as usize
+    entry == -1
 }
 
-// The entry at i, which is not negative, as a vertex.
-pub fn natural_at(l: &[i32], i: usize) -> usize
-    requires { (i < length l.now) × (is_natural (get_or l.now i (pos 0)) ≡ true) }
-    ensures { result ≡ num (get_or l.now i (pos 0)) }
+// Whether the entry is below -1 or at least n. With one added -1 is 0, which is not above n.
+pub fn is_outside(entry: i32, n: usize) -> bool
+    ensures { result ≡ outside n entry }
 {
-    let x = l[i];
-    x as usize
+    let above = i64::from(entry) + 1;
+    above < 0 || n < above as usize
 }
 
-// The position of the -1 that ends the face which starts at `at`, or the list's length if the list ends first; `at` itself where
-// the list ends before it.
-pub fn run_end(l: &[i32], at: usize) -> usize
-    ensures { result ≡ at + run_length (drop at l.now) }
+// The entry as a vertex, 0 where it is negative.
+// kept: `as`, since usize::try_from, here and above, misses the bar of speed: the check of triangles took 1.8 times as long; and 0
+// in place of None, for `num`, by which every definition reads an entry, has 0 there.
+pub fn vertex(entry: i32) -> usize
+    ensures { result ≡ num entry }
 {
-    let mut i = at;
-    while i < l.len() {
-        if crate::end_at(l, i) {
-            return i;
-        }
-        i += 1;
-    }
-    i
+    entry.max(0) as usize
+}
+
+// The number of entries before the first -1 of the part.
+pub fn run_length(part: &[i32]) -> usize
+    ensures { result ≡ run_length part.now }
+{
+    part.iter()
+        .position(|&entry| is_end(entry))
+        .unwrap_or(part.len())
 }

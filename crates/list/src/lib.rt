@@ -2,52 +2,70 @@
 // It stands on nothing; every other crate may use it.
 #![tactic(auto)]
 
-ghost use Rattle.std.specs.Prelude.{◌≡◌, length, get_or, pos};
+ghost use Rattle.std.specs.Prelude.{◌≡◌, ◌<◌, ◌≤◌, length, get_or, pos, IfOk, slice_get};
 ghost use Rattle.list.specs.Limits.{max_entries, max_vertices};
-ghost use Rattle.list.specs.Faces.{step_at, is_end, num, faces, corners};
-ghost use Rattle.list.specs.Check.{check_of, check_faces, accepted, refused as refused_by};
+ghost use Rattle.list.specs.Faces.{is_end, num, faces, corners};
+ghost use Rattle.list.specs.Check.{check_of, check_faces, accepted};
+ghost use Rattle.list.specs.Told.{code_of, place_of, check_told, valid_told};
 ghost use Rattle.list.specs.Flags.{Flags};
+ghost use Rattle.std.specs.Option.{option_map};
+ghost use Rattle.list.specs.Cursor.{face_seen};
 ghost use Rattle.list.specs.Show.{span_of, face_of, asked};
 
+pub mod cursor;
 mod entry;
+mod refusal;
 mod rules;
+mod valid;
+
+pub use cursor::{Cursor, Face};
+pub use entry::{is_end, vertex};
+pub use refusal::Refusal;
+use rules::FaceFault;
+pub use valid::ValidList;
 
 // The list type: it carries the limits, and makes the cursor that goes through a list.
 #[derive(Clone, Copy)]
 pub struct IndexList {}
 
-// A place between two faces of a list: the position where the next face starts.
-#[derive(Clone, Copy)]
-pub struct Cursor {
-    pub at: usize,
-}
-
-// What the cursor answers: a face's start and end (without its -1) and the cursor behind it, or the end of the list.
-#[derive(Clone, Copy)]
-pub enum Step {
-    Face {
-        start: usize,
-        end: usize,
-        next: Cursor,
-    },
-    Done,
-}
-
-#[derive(Clone, Copy)]
-pub struct CheckAnswer {
-    pub code: u32,
-    pub place: usize,
+// How many faces and corners a valid list has.
+#[derive(Clone, Copy, Debug, PartialEq, Eq)]
+pub struct Counts {
     pub faces: usize,
     pub corners: usize,
 }
 
-// The first fault of a face, its place counted from where the face starts.
-#[derive(Clone, Copy)]
-pub enum FaceFault {
-    Sound,
+// Why a list is refused, with the position in the list.
+#[derive(Clone, Copy, Debug, PartialEq, Eq)]
+pub enum Fault {
+    TooManyEntries,
+    TooManyVertices,
     Outside(usize),
-    Short,
+    Short(usize),
     Repeated(usize),
+}
+
+impl Refusal for Fault {
+    ghost code_of = { code_of };
+
+    ghost place_of = { place_of };
+
+    fn code(self) -> u32 {
+        match self {
+            Fault::TooManyEntries => 1,
+            Fault::TooManyVertices => 2,
+            Fault::Outside(_) => 3,
+            Fault::Short(_) => 4,
+            Fault::Repeated(_) => 5,
+        }
+    }
+
+    fn place(self) -> usize {
+        match self {
+            Fault::TooManyEntries | Fault::TooManyVertices => 0,
+            Fault::Outside(place) | Fault::Short(place) | Fault::Repeated(place) => place,
+        }
+    }
 }
 
 #[derive(Clone, Copy)]
@@ -69,8 +87,10 @@ impl IndexList {
     pub const MAX_VERTICES: usize = 65_536;
 
     // A table for at most so many vertices is quick to clear.
+    // kept: its users test for it, each on a walk of its own; a closure that takes either table would have to be generic in its size.
     pub const FEW_VERTICES: usize = 4_096;
 
+    // kept: a function for each constant, as docs/CONTRACTS.md names both: they tie the constants to the definitions.
     pub fn max_entries() -> usize
         ensures { result ≡ max_entries }
     {
@@ -84,28 +104,11 @@ impl IndexList {
     }
 
     // The cursor at the start of a list.
-    pub fn cursor() -> Cursor
-        ensures { result.at ≡ 0 }
+    pub fn cursor(list: &[i32]) -> Cursor<'_>
+        ensures list { result.list.now ≡ list.now }
+        ensures at { result.at ≡ 0 }
     {
-        Cursor { at: 0 }
-    }
-}
-
-impl Cursor {
-    // The face that starts at the cursor, or the end of the list. A cursor past the end is at the end.
-    pub fn next(self, list: &[i32]) -> Step
-        ensures { result ≡ step_at list.now self.at }
-    {
-        let start = self.at;
-        let end = entry::run_end(list, start);
-        if list.len() <= start {
-            return Step::Done;
-        }
-        Step::Face {
-            start,
-            end,
-            next: Cursor { at: end + 1 },
-        }
+        Cursor { list, at: 0 }
     }
 }
 
@@ -113,96 +116,91 @@ impl Cursor {
 pub fn end_at(l: &[i32], i: usize) -> bool
     ensures { result ≡ is_end (get_or l.now i (pos 0)) }
 {
-    if i < l.len() { l[i] == -1 } else { false }
+    l.get(i).is_some_and(|&entry| entry::is_end(entry))
 }
 
 // The entry at position i as a vertex, 0 where it is negative or the list ends before it.
 pub fn vertex_at(l: &[i32], i: usize) -> usize
     ensures { result ≡ num (get_or l.now i (pos 0)) }
 {
-    if l.len() <= i {
-        return 0;
-    }
-    let x = l[i];
-    if x < 0 {
-        return 0;
-    }
-    x as usize
+    l.get(i).map_or(0, |&entry| vertex(entry))
 }
 
-fn refused(code: u32, place: usize) -> CheckAnswer
-    ensures { result ≡ refused_by code place }
+// The number of faces and corners of a list that is valid with n vertices, or its first fault.
+#[tactic(auto, using(crate::proofs::Checking::check_cases))]
+pub fn check(list: &[i32], n: usize) -> Result<Counts, Fault>
+    ensures { check_told result ≡ check_of list.now n }
 {
-    CheckAnswer {
-        code,
-        place,
-        faces: 0,
-        corners: 0,
+    if IndexList::MAX_ENTRIES < list.len() {
+        return Err(Fault::TooManyEntries);
     }
-}
-
-// Whether the list is valid with n vertices: its number of faces and corners, or the code and place of its first fault.
-pub fn check(list: &[i32], n: usize) -> CheckAnswer
-    ensures { result ≡ check_of list.now n }
-{
-    if IndexList::max_entries() < list.len() {
-        return refused(1, 0);
-    }
-    if IndexList::max_vertices() < n {
-        return refused(2, 0);
+    if IndexList::MAX_VERTICES < n {
+        return Err(Fault::TooManyVertices);
     }
     if n <= IndexList::FEW_VERTICES {
-        let mut few = [0u8; IndexList::FEW_VERTICES];
-        return check_faces(list, n, &mut few);
+        check_faces::<{ IndexList::FEW_VERTICES }>(list, n)
+    } else {
+        check_faces::<{ IndexList::MAX_VERTICES }>(list, n)
     }
-    let mut flags = [0u8; IndexList::MAX_VERTICES];
-    check_faces(list, n, &mut flags)
 }
 
-// The check of a list within the limits, face by face. There is a flag for each vertex, 0 before and afterwards.
-fn check_faces(list: &[i32], n: usize, flags: &mut [u8]) -> CheckAnswer
-    requires { Flags n flags.old }
-    ensures { result ≡ check_faces n (faces list.now) (accepted (length (faces list.now)) (length (corners list.now))) }
+// The check of a list within the limits, face by face, with flags for at most MOST vertices.
+fn check_faces<const MOST: usize>(list: &[i32], n: usize) -> Result<Counts, Fault>
+    requires { (n ≤ MOST) × (0 < MOST) × (MOST ≤ max_vertices) }
+    ensures { check_told result ≡ check_faces n (faces list.now) (accepted (length (faces list.now)) (length (corners list.now))) }
 {
-    let mut cursor = IndexList::cursor();
-    let mut count = 0;
+    let mut flags = [0u8; MOST];
+    let mut faces = 0;
     let mut corners = 0;
-    loop {
-        let Step::Face { start, end, next } = cursor.next(list) else {
-            return CheckAnswer {
-                code: 0,
-                place: 0,
-                faces: count,
-                corners,
-            };
-        };
-        match rules::face_fault(&list[start..end], n, flags) {
-            FaceFault::Sound => {}
-            FaceFault::Outside(i) => return refused(3, start + i),
-            FaceFault::Short => return refused(4, start),
-            FaceFault::Repeated(i) => return refused(5, start + i),
+    for face in IndexList::cursor(list) {
+        if let Err(fault) = rules::check_face(face.entries, n, &mut flags) {
+            return Err(match fault {
+                FaceFault::Outside(i) => Fault::Outside(face.start + i),
+                FaceFault::Short => Fault::Short(face.start),
+                FaceFault::Repeated(i) => Fault::Repeated(face.start + i),
+            });
         }
-        count += 1;
-        corners += end - start;
-        cursor = next;
+        faces += 1;
+        corners += face.entries.len();
     }
+    Ok(Counts { faces, corners })
+}
+
+impl<'a> ValidList<'a> {
+    // The list with its counts, or its first fault.
+    pub fn new(entries: &'a [i32], vertices: usize) -> Result<ValidList<'a>, Fault>
+        ensures told { valid_told result ≡ check_of entries.now vertices }
+        ensures same { IfOk result (λ l. (l.entries.now ≡ entries.now) × (l.vertices ≡ vertices)) }
+    {
+        let Counts { faces, corners } = check(entries, vertices)?;
+        Ok(ValidList {
+            entries,
+            vertices,
+            faces,
+            corners,
+        })
+    }
+}
+
+// Face k of the list. It reads any entries.
+fn face_at(list: &[i32], k: usize) -> Option<Face<'_>>
+    ensures { option_map face_seen result ≡ slice_get (faces list.now) k }
+{
+    IndexList::cursor(list).nth(k)
 }
 
 // Where face k of the list starts and ends, without its -1; 0 and 0 where there is no face k. It reads any entries.
+// kept: no Option, since `span_of`, which every user is promised, answers 0 and 0 there.
+#[tactic(auto, using(crate::proofs::Shown::shown_cases))]
 pub fn face_span(list: &[i32], k: usize) -> Span
     ensures { result ≡ span_of list.now k }
 {
-    let mut cursor = IndexList::cursor();
-    let mut left = k;
-    loop {
-        let Step::Face { start, end, next } = cursor.next(list) else {
-            return Span { start: 0, end: 0 };
-        };
-        if left == 0 {
-            return Span { start, end };
-        }
-        left -= 1;
-        cursor = next;
+    match face_at(list, k) {
+        Some(face) => Span {
+            start: face.start,
+            end: face.start + face.entries.len(),
+        },
+        None => Span { start: 0, end: 0 },
     }
 }
 
@@ -217,11 +215,12 @@ pub fn face<'a>(before: &'a [i32], after: &'a [i32], which: Which, k: usize) -> 
     }
 }
 
+#[tactic(auto, using(crate::proofs::Shown::shown_cases))]
 fn part(list: &[i32], k: usize) -> &[i32]
     ensures { result.now ≡ face_of list.now k }
 {
-    let span = face_span(list, k);
-    let start = span.start;
-    let end = span.end;
-    &list[start..end]
+    match face_at(list, k) {
+        Some(face) => face.entries,
+        None => &list[..0],
+    }
 }

@@ -1,129 +1,101 @@
 // The rules that a face is held to. Each takes one face as a part of the list that starts in its middle.
 ghost use Rattle.std.specs.Prelude.{◌≡◌, length, replicate};
-ghost use Rattle.list.specs.Faces.{NoEnd, Naturals, vertices, first_where};
-ghost use Rattle.list.specs.Check.{is_vertex, first_outside, first_repeat, face_fault};
-ghost use Rattle.list.specs.Flags.{Flags, Clear, Marked, marked, seen_to};
+ghost use Rattle.list.specs.Faces.{NoEnd, Naturals, vertices, place_or_none};
+ghost use Rattle.list.specs.Check.{first_outside, first_repeat, face_fault};
+ghost use Rattle.list.specs.Flags.{Flags, Clear, SetWithin, marked, seen_to};
 
-use crate::FaceFault;
+use crate::entry;
 
 // A face of up to this many corners is tested for repeats entry by entry; a longer one in one pass over the flags, which from
 // here on is faster.
 const SHORT_FACE: usize = 5;
 
-// The place in the face of its first entry below -1 or at least n; the face's length if there is none.
-pub fn first_outside(face: &[i32], n: usize) -> usize
-    requires { NoEnd face.now }
-    ensures { result ≡ first_outside n face.now }
-{
-    let mut i = 0;
-    while i < face.len() {
-        if crate::entry::outside_at(face, i, n) {
-            return i;
-        }
-        i += 1;
-    }
-    i
+// The first fault of a face, its place counted from where the face starts.
+// kept: beside `Fault`, whose places are the list's, since a rule knows neither where its face starts nor the limits.
+#[derive(Clone, Copy, Debug, PartialEq, Eq)]
+pub enum FaceFault {
+    Outside(usize),
+    Short,
+    Repeated(usize),
 }
 
-// The place of the vertex v in the part; the part's length if it is not there.
-pub fn place_in(part: &[i32], v: usize) -> usize
-    requires { Naturals part.now }
-    ensures { result ≡ first_where (is_vertex v) part.now }
+// The place in the face of its first entry below -1 or at least n.
+fn first_outside(face: &[i32], n: usize) -> Option<usize>
+    ensures { result ≡ place_or_none face.now (first_outside n face.now) }
 {
-    let mut i = 0;
-    while i < part.len() {
-        if crate::entry::natural_at(part, i) == v {
-            return i;
-        }
-        i += 1;
-    }
-    i
+    face.iter().position(|&entry| entry::is_outside(entry, n))
 }
 
 // The first repeat of a short face: each entry, from the left, is looked for in the part before it.
-pub fn repeat_by_looking(face: &[i32]) -> usize
+fn repeat_by_looking(face: &[i32]) -> Option<usize>
     requires { Naturals face.now }
-    ensures { result ≡ first_repeat (vertices face.now) }
+    ensures { result ≡ place_or_none face.now (first_repeat (vertices face.now)) }
 {
-    let mut j = 0;
-    while j < face.len() {
-        let v = crate::entry::natural_at(face, j);
-        let earlier = place_in(&face[..j], v);
-        if earlier < j {
-            return j;
+    for (j, entry) in face.iter().enumerate() {
+        if face[..j].contains(entry) {
+            return Some(j);
         }
-        j += 1;
     }
-    j
+    None
 }
 
 // Sets the flags of the face's vertices up to its first repeat, whose place is the answer.
-pub fn mark(face: &[i32], flags: &mut [u8]) -> usize
+fn mark(face: &[i32], flags: &mut [u8]) -> Option<usize>
     requires { Clear (vertices face.now) flags.old }
-    ensures { (result ≡ first_repeat (vertices face.now)) × (flags.new ≡ marked flags.old (seen_to (vertices face.now) result)) }
+    ensures repeat { result ≡ place_or_none face.now (first_repeat (vertices face.now)) }
+    ensures before_it { flags.new ≡ marked flags.old (seen_to (vertices face.now) (first_repeat (vertices face.now))) }
 {
-    let mut i = 0;
-    while i < face.len() {
-        let v = crate::vertex_at(face, i);
+    for (i, &entry) in face.iter().enumerate() {
+        let v = entry::vertex(entry);
         if flags[v] != 0 {
-            return i;
+            return Some(i);
         }
         flags[v] = 1;
-        i += 1;
     }
-    i
+    None
 }
 
-// Clears the flags of the face's first r vertices, none of which is a repeat.
-pub fn unmark(face: &[i32], r: usize, flags: &mut [u8])
-    requires { Marked (vertices face.now) flags.old r }
+// Clears the flags of the part's vertices, the only ones that may be set.
+fn unmark(part: &[i32], flags: &mut [u8])
+    requires { SetWithin (vertices part.now) flags.old }
     ensures { flags.new ≡ replicate (length flags.old) 0 }
 {
-    let mut j = r;
-    while 0 < j {
-        j -= 1;
-        let v = crate::vertex_at(face, j);
-        flags[v] = 0;
+    for &entry in part {
+        flags[entry::vertex(entry)] = 0;
     }
 }
 
 // The first repeat of a long face, in one pass; the flags are 0 again afterwards.
-pub fn repeat_by_flags(face: &[i32], flags: &mut [u8]) -> usize
+fn repeat_by_flags(face: &[i32], flags: &mut [u8]) -> Option<usize>
     requires { Clear (vertices face.now) flags.old }
-    ensures { (result ≡ first_repeat (vertices face.now)) × (flags.new ≡ flags.old) }
+    ensures repeat { result ≡ place_or_none face.now (first_repeat (vertices face.now)) }
+    ensures cleared { flags.new ≡ flags.old }
 {
-    let r = mark(face, flags);
-    unmark(face, r, flags);
-    r
-}
-
-pub fn first_repeat(face: &[i32], flags: &mut [u8]) -> usize
-    requires { Naturals face.now × Clear (vertices face.now) flags.old }
-    ensures { (result ≡ first_repeat (vertices face.now)) × (flags.new ≡ flags.old) }
-{
-    if face.len() <= SHORT_FACE {
-        repeat_by_looking(face)
-    } else {
-        repeat_by_flags(face, flags)
-    }
+    let repeat = mark(face, flags);
+    unmark(&face[..repeat.unwrap_or(face.len())], flags);
+    repeat
 }
 
 // The face's first fault: an entry outside, then too few entries, then a repeat. The flags are 0 before and afterwards.
-#[tactic(auto, using(crate::proofs::Faults::fault_cases))]
-pub fn face_fault(face: &[i32], n: usize, flags: &mut [u8]) -> FaceFault
+#[tactic(auto, using(crate::proofs::Faults::fault_told))]
+pub fn check_face(face: &[i32], n: usize, flags: &mut [u8]) -> Result<(), FaceFault>
     requires { NoEnd face.now × Flags n flags.old }
-    ensures { (result ≡ face_fault n face.now) × (flags.new ≡ flags.old) }
+    ensures fault { result ≡ face_fault n face.now }
+    ensures cleared { flags.new ≡ flags.old }
 {
-    let out = first_outside(face, n);
-    if out < face.len() {
-        return FaceFault::Outside(out);
+    if let Some(i) = first_outside(face, n) {
+        return Err(FaceFault::Outside(i));
     }
     if face.len() < 3 {
-        return FaceFault::Short;
+        return Err(FaceFault::Short);
     }
-    let again = first_repeat(face, flags);
-    if again < face.len() {
-        return FaceFault::Repeated(again);
+    let repeat = if face.len() <= SHORT_FACE {
+        repeat_by_looking(face)
+    } else {
+        repeat_by_flags(face, flags)
+    };
+    match repeat {
+        Some(i) => Err(FaceFault::Repeated(i)),
+        None => Ok(()),
     }
-    FaceFault::Sound
 }

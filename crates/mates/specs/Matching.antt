@@ -1,7 +1,6 @@
 -- Mates from an order of the corners by the lower vertices of their keys: what the functions that find them promise one another.
--- Each corner of the order meets the last one before it that has its key. The work has the keys ks in its first block of c words,
--- the order xs in its second and the mates' words in its third; the table ls has for each vertex the last corner met whose key has
--- it as the higher one, and 0 where none was met.
+-- Each corner of the order xs meets the last one before it that has its key, of the keys ks, and ms gets the mates' words; the table
+-- ls has for each vertex the last corner met whose key has it as the higher one, and 0 where none was met.
 --
 --   same_key ks e        the corners with the key of corner e
 --   word_by ks e         the word for the mate of corner e, found by the keys
@@ -10,16 +9,16 @@
 --   last_of d xs          the last of xs; d where there is none
 --   met ks xs i k        the corners with the key k among the first i of the order
 --   starts_met ks xs i e  e is the first of three or more corners with its key among those i
---   corner_at c w i      the corner at place i of the order
---   earlier c w i        the corners before it that have its key
---   last_at c w ls e      the last corner met at the higher vertex of corner e's key
---   noted c w ls i       ls with the corner at place i as the last one met at the higher vertex of its key
---   Met c i w ls         the first i corners of the order have met: each has the right word among them. The last corner met at
---                        the higher vertex of a key was met, or is 0; where the corners of that key are still to come, it is the
---                        last that was met of that key, if one was
+--   earlier ks xs i      the corners before the one at place i of the order that have its key
+--   last_at ks ls e       the last corner met at the higher vertex of corner e's key
+--   noted ks ls e        ls with corner e as the last one met at the higher vertex of its key
+--   Met ks xs i ls       the first i corners of the order have met. The last corner met at the higher vertex of a key was met, or is
+--                        0; where the corners of that key are still to come, it is the last that was met of that key, if one was
+--   Words ks xs i ms     each of the first i corners has the right word among them
 use Rattle.std.specs.Prelude.{ℕ, ◌+◌, ◌*◌, ◌≤◌, ◌<◌, ◌≡◌, Bool, List, [], ◌∷◌, ◌⊎◌, length, get_or, take, set}
+use Rattle.list.specs.Limits.{max_entries}
 use Rattle.order.specs.Choose.{choose, All, up_from}
-use Rattle.order.specs.Sort.{part, digit_is, key_at, higher, Grouped}
+use Rattle.order.specs.Sort.{digit_is, key_at, lower, higher, Arranged}
 use Rattle.mates.specs.Mates.{mate_among, mate_word, starts_many}
 
 abbrev pub same_key : List ℕ → ℕ → List ℕ
@@ -44,22 +43,23 @@ met ks xs i k = choose (digit_is (key_at ks) k) (take i xs)
 abbrev pub starts_met : List ℕ → List ℕ → ℕ → ℕ → Bool
 starts_met ks xs i e = starts_many e (met ks xs i (key_at ks e))
 
-abbrev pub corner_at : ℕ → List ℕ → ℕ → ℕ
-corner_at c w i = get_or (part c c w) i 0
+abbrev pub earlier : List ℕ → List ℕ → ℕ → List ℕ
+earlier ks xs i = met ks xs i (key_at ks (get_or xs i 0))
 
-abbrev pub earlier : ℕ → List ℕ → ℕ → List ℕ
-earlier c w i = met (part 0 c w) (part c c w) i (key_at (part 0 c w) (corner_at c w i))
+abbrev pub last_at : List ℕ → List ℕ → ℕ → ℕ
+last_at ks ls e = get_or ls (higher (key_at ks e)) 0
 
-abbrev pub last_at : ℕ → List ℕ → List ℕ → ℕ → ℕ
-last_at c w ls e = get_or ls (higher (key_at (part 0 c w) e)) 0
+abbrev pub noted : List ℕ → List ℕ → ℕ → List ℕ
+noted ks ls e = set ls (higher (key_at ks e)) e
 
-abbrev pub noted : ℕ → List ℕ → List ℕ → ℕ → List ℕ
-noted c w ls i = set ls (higher (key_at (part 0 c w) (corner_at c w i))) (corner_at c w i)
+pub record Met (ks xs : List ℕ) (i : ℕ) (ls : List ℕ) : Type 0 where
+  pub few : length ks ≤ max_entries
+  pub arranged : Arranged (length ks) (key_at ks) (λ (e : ℕ). lower (key_at ks e)) xs
+  pub inside : i ≤ length ks
+  pub fits : (e : ℕ) → e < length ks → higher (key_at ks e) < length ls
+  pub seen : (e : ℕ) → e < length ks → (last_at ks ls e ≡ 0) ⊎ ((p : ℕ) × (p < i) × (get_or xs p 0 ≡ last_at ks ls e))
+  pub last : (q : ℕ) → i ≤ q → q < length ks → last_of (last_at ks ls (get_or xs q 0)) (met ks xs i (key_at ks (get_or xs q 0))) ≡ last_at ks ls (get_or xs q 0)
 
-pub record Met (c i : ℕ) (w ls : List ℕ) : Type 0 where
-  pub grouped : Grouped c w
-  pub inside : i ≤ c
-  pub fits : (e : ℕ) → e < c → higher (key_at (part 0 c w) e) < length ls
-  pub seen : (e : ℕ) → e < c → (last_at c w ls e ≡ 0) ⊎ ((p : ℕ) × (p < i) × (corner_at c w p ≡ last_at c w ls e))
-  pub last : (q : ℕ) → i ≤ q → q < c → last_of (last_at c w ls (corner_at c w q)) (met (part 0 c w) (part c c w) i (key_at (part 0 c w) (corner_at c w q))) ≡ last_at c w ls (corner_at c w q)
-  pub words : (k : ℕ) → All (λ (e : ℕ). get_or w (2 * c + e) 0 ≡ mate_word c e (mate_among e (met (part 0 c w) (part c c w) i k))) (met (part 0 c w) (part c c w) i k)
+pub record Words (ks xs : List ℕ) (i : ℕ) (ms : List ℕ) : Type 0 where
+  pub room : length ms ≡ length ks
+  pub right : (k : ℕ) → All (λ (e : ℕ). get_or ms e 0 ≡ mate_word (length ks) e (mate_among e (met ks xs i k))) (met ks xs i k)

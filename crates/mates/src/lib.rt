@@ -11,6 +11,7 @@ ghost use Rattle.mates.specs.Matching.{starts_by, RightAt};
 mod matching;
 
 // The words of all corners' mates, by their keys, in the third block; the answer is the number of singular edges.
+// kept: the whole buffer with c and n, as docs/CONTRACTS.md names `pair_edges`; the walk inside has its blocks as slices.
 pub fn pair_edges(work: &mut [u32], c: usize, n: usize) -> usize
     requires { (length work.old ≡ 4 * c) × (c ≤ max_entries) × (n ≤ max_vertices) × KeysBelow c n work.old }
     ensures right { (e : ℕ) → e < c → RightAt c (part 0 c work.old) work.new e }

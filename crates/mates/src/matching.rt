@@ -1,12 +1,11 @@
 // Mates from an order of the corners by the lower vertices of their keys: each corner meets the last one before it that has its
-// key. The keys stand in the first c words of work, the order in the second c, and the mates' words go into the third. A table has
-// for each vertex the last corner met whose key has it as the higher one, and 0 where none was met: with the key of corner 0 no
-// corner comes before that one.
-ghost use Rattle.std.specs.Prelude.{◌≡◌, ℕ, ◌+◌, ◌*◌, ◌≤◌, ◌<◌};
+// key. A table has for each vertex the last corner met whose key has it as the higher one, and 0 where none was met: with the key
+// of corner 0 no corner comes before that one.
+ghost use Rattle.std.specs.Prelude.{◌≡◌, ℕ, ◌+◌, ◌*◌, ◌≤◌, ◌<◌, length, get_or, replicate, if◌then◌else◌};
 ghost use Rattle.list.specs.Limits.{max_vertices};
 ghost use Rattle.order.specs.Choose.{count, up_from};
 ghost use Rattle.order.specs.Sort.{part, Kept, higher, KeysBelow, Grouped};
-ghost use Rattle.mates.specs.Matching.{starts_by, RightAt, last_of, starts_met, corner_at, earlier, noted, Met};
+ghost use Rattle.mates.specs.Matching.{word_by, starts_by, RightAt, last_of, starts_met, earlier, noted, Met, Words};
 
 use list::IndexList;
 
@@ -18,62 +17,62 @@ fn higher_of(key: u32) -> usize
 }
 
 // The last corner met that has the key of the corner at place i of the order, which is noted as met; that corner where none has.
-fn last_before(work: &[u32], last: &mut [u16], c: usize, i: usize) -> u32
-    requires { Met c i work.now last.old × (i < c) }
-    ensures last { result ≡ last_of (corner_at c work.now i) (earlier c work.now i) }
-    ensures noted { last.new ≡ noted c work.now last.old i }
+// kept: no Option, here and in the table. The word of a corner that is alone is that corner itself, as `RightAt` has it, so the caller
+// does the same for both; and an Option of 16 bits is 32 bits wide, so the table to clear would be 256 KB and not 128.
+fn last_before(keys: &[u32], order: &[u32], last: &mut [u16], i: usize) -> u32
+    requires { Met keys.now order.now i last.old × (i < length keys.now) }
+    ensures last { result ≡ last_of (get_or order.now i 0) (earlier keys.now order.now i) }
+    ensures noted { last.new ≡ noted keys.now last.old (get_or order.now i 0) }
 {
-    let e = work[c + i];
-    let key = work[e as usize];
+    let e = order[i];
+    let key = keys[e as usize];
     let d = higher_of(key);
-    let m = last[d];
+    let m = u32::from(last[d]);
     last[d] = e as u16;
-    if work[m as usize] == key {
-        return m as u32;
-    }
-    e
+    if keys[m as usize] == key { m } else { e }
 }
 
-// The corner at place i of the order meets those with its key before it; the answer is 1 where it is the third of them, else 0.
-fn meet(work: &mut [u32], last: &mut [u16], c: usize, i: usize) -> usize
-    requires { Met c i work.old last.old × (i < c) }
-    ensures met { Met c (i + 1) work.new last.new }
-    ensures kept { Kept (2 * c) c work.old work.new }
-    ensures counted { count (starts_met (part 0 c work.old) (part c c work.old) i) (up_from 0 c) + result ≡ count (starts_met (part 0 c work.old) (part c c work.old) (i + 1)) (up_from 0 c) }
+// The corner at place i of the order meets those with its key before it; the answer is whether it is the third of them.
+fn meet(keys: &[u32], order: &[u32], mates: &mut [u32], last: &mut [u16], i: usize) -> bool
+    requires { Met keys.now order.now i last.old × Words keys.now order.now i mates.old × (i < length keys.now) }
+    ensures met { Met keys.now order.now (i + 1) last.new }
+    ensures words { Words keys.now order.now (i + 1) mates.new }
+    ensures counted { count (starts_met keys.now order.now i) (up_from 0 (length keys.now)) + (if result then 1 else 0) ≡ count (starts_met keys.now order.now (i + 1)) (up_from 0 (length keys.now)) }
 {
-    let mates = 2 * c;
-    let e = work[c + i];
-    let own = mates + e as usize;
-    let a = last_before(work, last, c, i);
-    let other = mates + a as usize;
-    work[own] = e;
-    let b = work[other];
+    // kept: the number of corners as the word of an edge with three or more faces, by mate_word and the promise of pair_edges.
+    let many = keys.len() as u32;
+    let e = order[i];
+    let a = last_before(keys, order, last, i);
+    mates[e as usize] = e;
+    let b = mates[a as usize];
     if b == a {
-        work[own] = a;
-        work[other] = e;
-        return 0;
+        mates[e as usize] = a;
+        mates[a as usize] = e;
+        return false;
     }
-    work[own] = c as u32;
-    if b == c as u32 {
-        return 0;
+    mates[e as usize] = many;
+    if b == many {
+        return false;
     }
-    work[other] = c as u32;
-    work[mates + b as usize] = c as u32;
-    1
+    mates[a as usize] = many;
+    mates[b as usize] = many;
+    true
 }
 
-// All corners meet; the answer is the number of singular edges.
-fn meet_all(work: &mut [u32], last: &mut [u16], c: usize) -> usize
-    requires { Met c 0 work.old last.old }
-    ensures right { (e : ℕ) → e < c → RightAt c (part 0 c work.old) work.new e }
-    ensures counted { result ≡ count (starts_by (part 0 c work.old)) (up_from 0 c) }
-    ensures kept { Kept (2 * c) c work.old work.new }
+// kept: the index, since `Met` and `Words` speak of the corners before the one at place i; and four slices, since `mates` and `last`
+// are written and the other two read, and a struct of the four would be made for this one walk.
+// All corners meet, with a table for at most MOST vertices; the answer is the number of singular edges.
+fn meet_all<const MOST: usize>(keys: &[u32], order: &[u32], mates: &mut [u32]) -> usize
+    requires { (MOST ≤ max_vertices) × Met keys.now order.now 0 (replicate MOST 0) × (length mates.old ≡ length keys.now) }
+    ensures right { (e : ℕ) → e < length keys.now → get_or mates.new e 0 ≡ word_by keys.now e }
+    ensures counted { result ≡ count (starts_by keys.now) (up_from 0 (length keys.now)) }
 {
+    let mut last = [0u16; MOST];
     let mut singular = 0;
-    let mut i = 0;
-    while i < c {
-        singular += meet(work, last, c, i);
-        i += 1;
+    for i in 0..keys.len() {
+        if meet(keys, order, mates, &mut last, i) {
+            singular += 1;
+        }
     }
     singular
 }
@@ -85,10 +84,12 @@ pub fn match_corners(work: &mut [u32], c: usize, n: usize) -> usize
     ensures counted { result ≡ count (starts_by (part 0 c work.old)) (up_from 0 c) }
     ensures kept { Kept (2 * c) c work.old work.new }
 {
+    let (keys, rest) = work.split_at_mut(c);
+    let (order, rest) = rest.split_at_mut(c);
+    let (mates, _) = rest.split_at_mut(c);
     if n <= IndexList::FEW_VERTICES {
-        let mut few = [0u16; IndexList::FEW_VERTICES];
-        return meet_all(work, &mut few, c);
+        meet_all::<{ IndexList::FEW_VERTICES }>(keys, order, mates)
+    } else {
+        meet_all::<{ IndexList::MAX_VERTICES }>(keys, order, mates)
     }
-    let mut last = [0u16; IndexList::MAX_VERTICES];
-    meet_all(work, &mut last, c)
 }

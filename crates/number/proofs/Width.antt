@@ -1,5 +1,6 @@
--- How many digits a number has at most.
-use Prim.Native.Nat.{ℕ, zero, suc, ◌/◌, ◌≤◌, ◌<◌, ◌^◌}
+-- How many digits a number has: between which powers of ten it lies, and how many at most.
+use mathlib.Core.Path.{◌≡◌, ap}
+use Prim.Native.Nat.{ℕ, zero, suc, ◌+◌, ◌*◌, ◌/◌, ◌≤◌, ◌<◌, ◌^◌, max}
 use native.Mathlib.Nat.{pow-succ'}
 use native.Mathlib.Omega.{arith}
 use native.Mathlib.Decide.{dec_lt}
@@ -19,3 +20,19 @@ width_within_lem (suc k) n h = go (dec_lt n 10) (λ r. width_within_lem k (n / 1
 
 pub width_64 : (n : ℕ) → n < 2 ^ 64 → width n ≤ 20
 width_64 n h = width_within_lem 19 n (omega arith)
+
+pub width_between : (k n : ℕ) → 10 ^ k ≤ n → n < 10 * 10 ^ k → width n ≡ k + 1
+width_between zero n l h = omega (arith, width_one n (omega arith))
+width_between (suc k) n l h =
+    let p = pow-succ' 10 k in
+    let m : 10 ≤ n = omega (arith, one_or_more k) in
+    omega (arith, width_more n m, width_between k (n / 10) (omega arith) (omega arith))
+  where
+    one_or_more : (j : ℕ) → 1 ≤ 10 ^ j
+    one_or_more zero = omega arith
+    one_or_more (suc j) = omega (arith, pow-succ' 10 j, one_or_more j)
+
+-- 0 has as many digits as 1
+pub width_max_one : (n : ℕ) → width (max n 1) ≡ width n
+width_max_one zero = omega (arith, width_one 0 (omega arith), width_one 1 (omega arith))
+width_max_one (suc n) = ap width (omega arith)

@@ -3,17 +3,16 @@
 --   beyond         a magnitude past the range of either sign: a larger one is kept as this one
 --   clipped o      the digits' value as the number reader keeps it
 --   put at vs t    the bytes vs at place at of t, and what stood in front of them and behind them
-use Rattle.std.specs.Prelude.{ℕ, ◌+◌, min, List, ◌++◌, length, take, drop}
-use Rattle.std.proofs.Math.Option.{Option, none, some}
-use Rattle.number.specs.declared.Digits.{Digits}
-use Rattle.number.specs.declared.Digits.TheVariants.{Magnitude, Broken}
+use Rattle.std.specs.Prelude.{ℕ, ◌+◌, min, List, ◌++◌, length, take, drop, Option, Some, None}
+use Rattle.std.proofs.Math.Option.{none, some}
+use Rattle.std.proofs.Math.Option as math
 
 abbrev pub beyond : ℕ
-beyond = 2147483649
+beyond = 4294967295
 
-abbrev pub clipped : Option ℕ → Digits
-clipped none = Broken
-clipped (some m) = Magnitude (min m beyond)
+abbrev pub clipped : math.Option ℕ → Option ℕ
+clipped none = None
+clipped (some m) = Some (min m beyond)
 
 abbrev pub put : ℕ → List ℕ → List ℕ → List ℕ
 put at vs t = take at t ++ (vs ++ drop (at + length vs) t)

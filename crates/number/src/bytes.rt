@@ -14,33 +14,31 @@ pub const PLUS: u8 = b'+';
 
 pub const ZERO: u8 = b'0';
 
-pub const NINE: u8 = b'9';
-
 // A byte that separates by itself.
 pub fn is_separator(b: u8) -> bool
     ensures { result ≡ is_separator b }
 {
-    (b == b'\t') | (b == b'\n') | (b == b'\r') | (b == b' ') | (b == b',')
+    matches!(b, b'\t' | b'\n' | b'\r' | b' ' | b',')
 }
 
 // A byte that ends a comment.
 pub fn ends_line(b: u8) -> bool
     ensures { result ≡ ends_line b }
 {
-    (b == b'\n') | (b == b'\r')
+    matches!(b, b'\n' | b'\r')
 }
 
 // A byte of a number, inside the brackets.
 pub fn in_number(b: u8) -> bool
     ensures { result ≡ in_number b }
 {
-    !(is_separator(b) | (b == HASH) | (b == OPEN) | (b == CLOSE))
+    !is_separator(b) && !matches!(b, HASH | OPEN | CLOSE)
 }
 
 pub fn is_digit(b: u8) -> bool
     ensures { result ≡ is_digit b }
 {
-    (ZERO <= b) & (b <= NINE)
+    b.is_ascii_digit()
 }
 
 // Whether a comment goes on behind `b`, where `comment` says whether `b` stands in one.
@@ -54,5 +52,5 @@ pub fn in_comment(comment: bool, b: u8) -> bool
 pub fn in_gap(comment: bool, b: u8) -> bool
     ensures { result ≡ in_gap comment b }
 {
-    comment | (b == HASH) | is_separator(b)
+    comment || b == HASH || is_separator(b)
 }

@@ -9,13 +9,7 @@ use crate::bytes::ZERO;
 pub fn digit_count(n: u64) -> usize
     ensures { (result ≡ width n) × (result ≤ 20) }
 {
-    let mut rest = n;
-    let mut count: usize = 1;
-    while 10 <= rest {
-        rest /= 10;
-        count += 1;
-    }
-    count
+    n.max(1).ilog10() as usize + 1
 }
 
 // Puts the `count` lowest digits of `n` at `at`, the last one first.
@@ -23,11 +17,9 @@ pub fn put_digits(text: &mut [u8], at: usize, count: usize, n: u64)
     requires { at + count ≤ length text.old }
     ensures { text.new ≡ put at (low_digits count n) text.old }
 {
-    let mut left = count;
     let mut rest = n;
-    while 0 < left {
-        left -= 1;
-        text[at + left] = ZERO + (rest % 10) as u8;
+    for k in (0..count).rev() {
+        text[at + k] = ZERO + (rest % 10) as u8;
         rest /= 10;
     }
 }

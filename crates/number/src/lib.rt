@@ -5,154 +5,89 @@
 pub mod bytes;
 pub mod decimal;
 
-ghost use Rattle.std.specs.Prelude.{◌≡◌, true, ◌+◌, ◌-◌, ◌*◌, ◌≤◌, min, length, drop};
-ghost use Rattle.number.specs.Bytes.{is_digit, zero_byte};
-ghost use Rattle.number.specs.Numbers.{number_bytes, is_minus, unsigned, magnitude_of, greatest, signed, number_at};
-ghost use Rattle.number.specs.Steps.{beyond, clipped};
+ghost use Rattle.std.specs.Prelude.{◌≡◌, cond, leb};
+ghost use Rattle.number.specs.Numbers.{number_bytes, is_minus, unsigned, magnitude_of, greatest, signed, number_at, number_told};
+ghost use Rattle.number.specs.Steps.{clipped};
 
 use bytes::{MINUS, PLUS, ZERO, in_number, is_digit};
 
-pub const NOT_OF_THE_FORM: u32 = 11;
-
-const OUT_OF_RANGE: u32 = 12;
-
-// A magnitude past the range of either sign.
-const BEYOND: u64 = 2_147_483_649;
-
-// Reading at a number gives its value with the place after it, or a refusal with its place.
-#[derive(Clone, Copy)]
-pub enum Number {
-    Value { value: i32, next: usize },
-    Refused { code: u32, place: usize },
+// A number read in a text, with the place after it.
+#[derive(Clone, Copy, Debug, PartialEq, Eq)]
+pub struct NumberRead {
+    pub value: i32,
+    pub next: usize,
 }
 
-// What one or more digits come to.
-#[derive(Drop)]
-enum Digits {
-    Magnitude(u64),
-    Broken,
+// Why a number is refused, with the place of its first byte.
+#[derive(Clone, Copy, Debug, PartialEq, Eq)]
+pub enum NumberFault {
+    NotOfTheForm(usize),
+    OutOfRange(usize),
 }
 
-// The place after the number that starts at `at`.
-fn number_end(text: &[u8], at: usize) -> usize
-    ensures { result ≡ at + length (number_bytes (drop at text.now)) }
+// The bytes of the number that `rest` begins with.
+fn number_bytes(rest: &[u8]) -> &[u8]
+    ensures { result.now ≡ number_bytes rest.now }
 {
-    let mut i = at;
-    while i < text.len() {
-        if !in_number(text[i]) {
-            return i;
+    let end = rest.iter().position(|b| !in_number(*b));
+    &rest[..end.unwrap_or(rest.len())]
+}
+
+// Whether a minus stands in front, and what stands behind the sign, if there is one.
+fn split_sign(number: &[u8]) -> (bool, &[u8])
+    ensures minus { result.0 ≡ is_minus number.now }
+    ensures digits { result.1.now ≡ unsigned number.now }
+{
+    match number {
+        [MINUS, digits @ ..] => (true, digits),
+        [PLUS, digits @ ..] => (false, digits),
+        digits => (false, digits),
+    }
+}
+
+// The value of one or more digits, kept at the greatest `u32` once past it: that is out of range too.
+// kept: no Option for a value past the range, since a byte further on that is no digit makes it code 11: the scan goes on.
+fn magnitude(digits: &[u8]) -> Option<u32>
+    ensures { result ≡ clipped (magnitude_of digits.now) }
+{
+    if digits.is_empty() {
+        return None;
+    }
+    let mut m: u32 = 0;
+    for b in digits {
+        if !is_digit(*b) {
+            return None;
         }
-        i += 1;
+        m = m.saturating_mul(10).saturating_add(u32::from(*b - ZERO));
     }
-    i
+    Some(m)
 }
 
-// Whether the number's bytes begin with a minus.
-fn is_minus(number: &[u8]) -> bool
-    ensures { result ≡ is_minus number.now }
+// The number of this sign and magnitude, where it is in range.
+fn with_sign(minus: bool, m: u32) -> Option<i32>
+    ensures { result ≡ cond (leb m (greatest minus)) (Some (signed minus m)) None }
 {
-    if number.len() == 0 {
-        false
-    } else {
-        number[0] == MINUS
-    }
-}
-
-// How many bytes a sign takes at the start: 1 or 0.
-fn sign_width(number: &[u8]) -> usize
-    ensures { drop result number.now ≡ unsigned number.now }
-{
-    if number.len() == 0 {
-        return 0;
-    }
-    let first = number[0];
-    if (first == MINUS) | (first == PLUS) {
-        1
-    } else {
-        0
-    }
-}
-
-// One digit more, kept at BEYOND once past it.
-fn with_digit(m: u64, b: u8) -> u64
-    requires { (m ≤ beyond) × (is_digit b ≡ true) }
-    ensures { result ≡ min (m * 10 + (b - zero_byte)) beyond }
-{
-    let next = m * 10 + (b - ZERO) as u64;
-    if next < BEYOND { next } else { BEYOND }
-}
-
-// The value of the digits from `from` on; one or more are wanted.
-fn digits_from(number: &[u8], from: usize) -> Digits
-    ensures { result ≡ clipped (magnitude_of (drop from number.now)) }
-{
-    if number.len() <= from {
-        return Digits::Broken;
-    }
-    let mut m: u64 = 0;
-    let mut i = from;
-    while i < number.len() {
-        let b = number[i];
-        if !is_digit(b) {
-            return Digits::Broken;
-        }
-        m = with_digit(m, b);
-        i += 1;
-    }
-    Digits::Magnitude(m)
-}
-
-// The greatest magnitude of a number with this sign.
-fn greatest_magnitude(minus: bool) -> u64
-    ensures { result ≡ greatest minus }
-{
-    if minus { 2_147_483_648 } else { 2_147_483_647 }
-}
-
-// The number of magnitude `m`.
-fn with_sign(minus: bool, m: u64) -> i32
-    requires { m ≤ greatest minus }
-    ensures { result ≡ signed minus m }
-{
-    let value = m as i64;
     if minus {
-        (0 - value) as i32
+        0i32.checked_sub_unsigned(m)
     } else {
-        value as i32
+        0i32.checked_add_unsigned(m)
     }
 }
 
 // Reads at a number: its value with the place after it.
 // Refused by 11 where its bytes are no number and by 12 where it is out of range, with its first byte as the place.
-pub fn read_number(text: &[u8], at: usize) -> Number
-    ensures { result ≡ number_at text.now at }
+pub fn read_number(text: &[u8], at: usize) -> Result<NumberRead, NumberFault>
+    ensures { number_told result ≡ number_at text.now at }
 {
-    if text.len() < at {
-        return Number::Refused {
-            code: NOT_OF_THE_FORM,
-            place: at,
-        };
-    }
-    let end = number_end(text, at);
-    let number = &text[at..end];
-    let minus = is_minus(number);
-    let from = sign_width(number);
-    let digits = digits_from(number, from);
-    let Digits::Magnitude(m) = digits else {
-        return Number::Refused {
-            code: NOT_OF_THE_FORM,
-            place: at,
-        };
+    let Some(rest) = text.get(at..) else {
+        return Err(NumberFault::NotOfTheForm(at));
     };
-    if m <= greatest_magnitude(minus) {
-        Number::Value {
-            value: with_sign(minus, m),
-            next: end,
-        }
-    } else {
-        Number::Refused {
-            code: OUT_OF_RANGE,
-            place: at,
-        }
-    }
+    let number = number_bytes(rest);
+    let (minus, digits) = split_sign(number);
+    let m = magnitude(digits).ok_or(NumberFault::NotOfTheForm(at))?;
+    let value = with_sign(minus, m).ok_or(NumberFault::OutOfRange(at))?;
+    Ok(NumberRead {
+        value,
+        next: at + number.len(),
+    })
 }

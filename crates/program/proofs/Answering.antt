@@ -11,23 +11,30 @@ use lib.Dec.{leb}
 use lib.IntN.{ℤ}
 use lib.ListN.{length, take, drop, replicate, length-append}
 use lib.Seq.{take_at, take-append_seam}
-use Rattle.number.specs.Numbers.{is_minus, unsigned, magnitude_of, greatest, signed, of_magnitude, number_of}
+use Rattle.number.specs.Numbers.{Number, Value, Refused, is_minus, unsigned, magnitude_of, greatest, signed, of_magnitude, number_of}
 use Rattle.number.specs.Codes.{out_of_range}
 use Rattle.text.specs.Tokens.{Token, opening, closing, number, tokens}
 use Rattle.list.specs.Written.{over}
-use Rattle.text.specs.Reading.{room_of, opened, read_of, value_then, values_of, entries_of, read_into}
+use Rattle.text.specs.Reading.{ReadAnswer, accepted, read_told, room_of, opened, read_of, value_then, values_of, entries_of, read_into}
+use Rattle.text.specs.declared.ReadFault.{ReadFault}
+use Rattle.text.specs.declared.ReadFault.TheVariants.{NotOfTheForm, OutOfRange, TooMany}
 use Rattle.text.specs.Writing.{Fits32, AllFit}
-use Rattle.number.specs.declared.Number.{Number}
-use Rattle.number.specs.declared.Number.TheVariants.{Value, Refused}
-use Rattle.text.specs.declared.ReadAnswer.{ReadAnswer}
 use Rattle.number.specs.Steps.{put}
 use Rattle.text.specs.Faults.{Whole, of_the_form}
 use Rattle.text.proofs.Whole.{inside_counts}
 use Rattle.text.proofs.Exactly.{Verdict, by_eleven, by_twelve, by_thirteen, by_none, verdict, eleven_exactly, twelve_exactly, thirteen_exactly, accepted_exactly}
 use Rattle.program.specs.Limits.{input_bytes, input_entries, output_bytes}
-use Rattle.program.specs.Printed.{line, refusal, printed_cut, entries_in, Read, too_large_code, printed, response_of}
+use Rattle.std.specs.Prelude.{Err}
+use Rattle.program.specs.Printed.{line, refusal, refused, printed_cut, entries_in, Read, too_large_code, printed, response_of}
+use Rattle.program.specs.declared.InputFault.TheVariants.{Unread}
 use Rattle.program.specs.declared.Response.{Response}
 use Rattle.program.proofs.Fitting.{fit_cons}
+
+-- a fault of the text has a code
+fault_coded : (f : ReadFault) → (read_told (Err f)).code ≡ 0 → ⊥
+fault_coded (NotOfTheForm p) z = absurd (omega arith)
+fault_coded (OutOfRange p) z = absurd (omega arith)
+fault_coded (TooMany p) z = absurd (omega arith)
 
 module _ (t : List ℕ) where
   pub large_printed : input_bytes < length t → printed t ≡ line (refusal too_large_code input_bytes)
@@ -42,6 +49,10 @@ module _ (t : List ℕ) where
   pub read_printed : length t ≤ input_bytes → (read_of t input_entries).code ≡ 0 → printed t ≡ printed_cut (entries_in t)
   unfolding printed
   read_printed h z = rw (le-ltb input_bytes (length t) h, eq-eqb (read_of t input_entries).code 0 z)
+
+  pub fault_printed : (f : ReadFault) → read_told (Err f) ≡ read_of t input_entries → length t ≤ input_bytes → printed t ≡ line (refused (Unread f))
+  fault_printed f q h =
+      unread_printed h (λ z. fault_coded f (ap (λ (r : ReadAnswer). r.code) q ∙ z)) ∙ ap (λ (r : ReadAnswer). line (refusal r.code r.place)) (sym q)
 
   -- the output as it is lent is 0
   pub responded : (bytes : List ℕ) (n : ℕ) → n ≡ length (printed t) → bytes ≡ put 0 (printed t) (replicate output_bytes 0)
@@ -127,3 +138,17 @@ module _ (t : List ℕ) (ok : (read_of t input_entries).code ≡ 0) where
       let e : l ≡ over (entries_in t) l₀ = h ∙ rw (room, eq-eqb (read_of t input_entries).code 0 ok) in
       ap (take (read_of t input_entries).entries) e
       ∙ take_at (entries_in t) (drop (length (entries_in t)) l₀) (read_of t input_entries).entries (sym counted)
+
+-- the reader's answer of n entries
+module _ (t : List ℕ) (n : ℕ) (q : accepted n ≡ read_of t input_entries) where
+  ok : (read_of t input_entries).code ≡ 0
+  ok = ap (λ (r : ReadAnswer). r.code) (sym q)
+
+  pub few : n ≤ input_entries
+  few = omega (arith, ap (λ (r : ReadAnswer). r.entries) q, entries_few t ok)
+
+  pub part_read : (l₀ l : List ℤ) → length l₀ ≡ input_entries → l ≡ read_into t l₀ → Read (take n l)
+  part_read l₀ l room h = rw (ap (λ (r : ReadAnswer). r.entries) q, entries_part t ok l₀ l room h) (entries_read t ok)
+
+  pub part_printed : (l₀ l : List ℤ) → length l₀ ≡ input_entries → l ≡ read_into t l₀ → length t ≤ input_bytes → printed t ≡ printed_cut (take n l)
+  part_printed l₀ l room h small = read_printed t small ok ∙ ap printed_cut (sym (rw (ap (λ (r : ReadAnswer). r.entries) q) (entries_part t ok l₀ l room h)))

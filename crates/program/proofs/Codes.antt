@@ -11,16 +11,15 @@ use lib.Dec.{eqb, ltb}
 use lib.IntN.{ℤ}
 use lib.ListN.{length, drop}
 use Rattle.list.specs.Faces.{Face, corners, faces}
-use Rattle.list.specs.Check.{refused, by_fault, face_fault, check_faces, check_of, accepted}
-use Rattle.list.specs.declared.FaceFault.{FaceFault}
-use Rattle.list.specs.declared.FaceFault.TheVariants as Fault·
-use Rattle.list.specs.declared.CheckAnswer.{CheckAnswer}
+use Rattle.list.specs.Check.{CheckAnswer, refused, by_fault, face_fault, check_faces, check_of, accepted}
+use Rattle.std.specs.Prelude.{Result, Ok, Err}
+use Rattle.list.specs.declared.rules.FaceFault.{FaceFault}
+use Rattle.list.specs.declared.rules.FaceFault.TheVariants as Fault·
 use Rattle.list.specs.Limits.{max_entries, max_vertices}
 use Rattle.list.proofs.Checking.{corners_fit}
 use Rattle.text.specs.Tokens.{tokens}
-use Rattle.text.specs.Reading.{room_of, read_of}
+use Rattle.text.specs.Reading.{ReadAnswer, room_of, read_of}
 use Rattle.number.specs.Decimal.{decimal_text}
-use Rattle.text.specs.declared.ReadAnswer.{ReadAnswer}
 use Rattle.text.proofs.Exactly.{Verdict, by_eleven, by_twelve, by_thirteen, by_none, verdict, eleven_exactly, twelve_exactly, thirteen_exactly, accepted_exactly}
 use Rattle.cut.specs.Cut.{cut_numbers, words_needed, cut_refused, cut_accepted, cut_of}
 use Rattle.program.specs.Limits.{input_bytes, input_entries}
@@ -47,11 +46,11 @@ check_code l n = by_entries (ltb max_entries (length l)) (ltb max_vertices n)
     ok : CheckAnswer
     ok = accepted (length (faces l)) (length (corners l))
 
-    by_face : (s : ℕ) (x : FaceFault) (rest : CheckAnswer) → rest.code ≤ 5 → (by_fault s x rest).code ≤ 5
-    by_face s Fault·.Sound rest h = h
-    by_face s (Fault·.Outside i) rest h = omega arith
-    by_face s Fault·.Short rest h = omega arith
-    by_face s (Fault·.Repeated i) rest h = omega arith
+    by_face : (s : ℕ) (x : Result (Unit {0}) FaceFault) (rest : CheckAnswer) → rest.code ≤ 5 → (by_fault s x rest).code ≤ 5
+    by_face s (Ok _) rest h = h
+    by_face s (Err (Fault·.Outside i)) rest h = omega arith
+    by_face s (Err Fault·.Short) rest h = omega arith
+    by_face s (Err (Fault·.Repeated i)) rest h = omega arith
 
     by_faces : (fs : List Face) → (check_faces n fs ok).code ≤ 5
     by_faces [] = omega arith

@@ -7,8 +7,8 @@ use native.Mathlib.Omega.{arith}
 use native.Mathlib.Nat.{zero-add}
 use borrow.Author.Tests.{eqb-false, eq-eqb, ne_eqb}
 use lib.Dec.{eqb, ltb}
-use lib.IntN.{ℤ}
-use lib.ListN.{length, take, drop, length-append, length-drop}
+use lib.IntN.{ℤ, pos}
+use lib.ListN.{length, take, drop, replicate, length-append, length-drop}
 use lib.Seq.{take_at}
 use Rattle.list.specs.Faces.{corners}
 use Rattle.list.specs.Check.{check_of}
@@ -19,9 +19,13 @@ use Rattle.groups.specs.Groups.{group_labels}
 use Rattle.groups.specs.Distinct.{distinct}
 use Rattle.renumber.specs.Renumber.{new_list_of, map_of}
 use Rattle.list.specs.Written.{over}
-use Rattle.cut.specs.Cut.{cut_numbers, words_needed, cut_refused, cut_accepted, cut_of, is_cut, cut_list, cut_map}
-use Rattle.cut.specs.declared.CutAnswer.{CutAnswer}
-use Rattle.program.specs.Limits.{input_entries}
+use Rattle.cut.specs.Cut.{CutAnswer, cut_numbers, words_needed, cut_refused, cut_accepted, cut_of, is_cut, cut_list, cut_map}
+use Rattle.std.specs.Prelude.{Result, Ok, Err}
+use Rattle.cut.specs.Told.{cut_told}
+use Rattle.cut.specs.declared.answer.Cut.{Cut}
+use Rattle.cut.specs.declared.answer.CutRefusal.{CutRefusal}
+use Rattle.cut.proofs.Told.{cut_coded}
+use Rattle.program.specs.Limits.{input_entries, output_bytes}
 use Rattle.program.specs.Printed.{vertex_count, line_feed, line, list_line, cut_answer, cut_lists, printed_cut, Read}
 use Rattle.renumber.proofs.Sizes.{new_list_length, map-length}
 use Rattle.program.proofs.Fitting.{map_fits, new_list_fits, text_short}
@@ -162,3 +166,51 @@ module _ (l : List ℤ) where
             put_more at₂ (one ++ two) three t t₂ t₃ (omega (arith, length-append one two)) (put_more at₁ one two t t₁ t₂ e₁ h₁ h₂ (omega arith)) h₃
                 (omega (arith, length-append one two)),
           )
+
+-- ---- what `put_cut` has at hand
+
+-- the buffers as it lends them
+abbrev entries : List ℤ
+entries = replicate input_entries (pos 0)
+
+abbrev words : List ℕ
+words = replicate (4 * input_entries) 0
+
+module _ {l : List ℤ} (read : Read l) {n : ℕ} (counted : n ≡ vertex_count l) where
+  pub answer_told : (r : Result Cut CutRefusal) → cut_told r ≡ cut_of l n (length entries) (length entries) (length words) → cut_told r ≡ cut_answer l
+  answer_told r e = answer_is l read entries entries words refl refl refl n counted (cut_told r) e
+
+  pub parts_made : (made : Cut) → cut_told (Ok made) ≡ cut_of l n (length entries) (length entries) (length words)
+      → {nl mp : List ℤ} → nl ≡ cut_list l n entries entries words → mp ≡ cut_map l n entries entries words → length mp ≡ length entries → Parts l made.vertices nl mp
+  parts_made made e {nl = nl} {mp = mp} listed mapped kept = parts l read entries entries words refl refl refl n counted (cut_told (Ok made)) e nl mp listed mapped kept refl
+
+-- a refusal: its line is all that is printed
+pub refusal_put : (l : List ℤ) (r : CutRefusal) → cut_told (Err r) ≡ cut_answer l → (at : ℕ) (t t' : List ℕ)
+    → at ≡ length (line (cut_numbers (cut_told (Err r)))) → t' ≡ put 0 (line (cut_numbers (cut_told (Err r)))) t
+    → (at ≡ length (printed_cut l)) × (t' ≡ put 0 (printed_cut l) t)
+refusal_put l r told at t t' e h =
+    rw (refused_printed l (λ z. cut_coded r (ap (λ (a : CutAnswer). a.code) told ∙ z)))
+    (e ∙ ap (λ (a : CutAnswer). length (line (cut_numbers a))) told, h ∙ ap (λ (a : CutAnswer). put 0 (line (cut_numbers a)) t) told)
+
+-- the three lines of an accepted list, put one behind another
+module _ {l : List ℤ} {v : ℕ} {nl mp : List ℤ} (w : Parts l v nl mp) (at₁ : ℕ) (small : at₁ ≤ 147) where
+  pub list_room : (length (take (length l) nl) ≤ input_entries) × (at₁ + length (list_line (take (length l) nl)) ≤ output_bytes)
+  list_room = rw w.new_list (w.list_few, omega (arith, w.list_short))
+
+  module _ {at₂ : ℕ} (e₂ : at₂ ≡ at₁ + length (list_line (take (length l) nl))) where
+    abbrev at_list : at₂ ≡ at₁ + length (list_line (new_list_of l (group_labels l)))
+    at_list = rw w.new_list at e₂
+
+    pub map_room : (length (take v mp) ≤ input_entries) × (at₂ + length (list_line (take v mp)) ≤ output_bytes)
+    map_room = rw w.new_map (w.map_few, omega (arith, at_list, w.list_short, w.map_short))
+
+    pub all_put : (made : Cut) → cut_told (Ok made) ≡ cut_answer l → (t : List ℕ) {at₃ : ℕ} {t₁ t₂ t₃ : List ℕ}
+        → at₁ ≡ length (line (cut_numbers (cut_told (Ok made)))) → t₁ ≡ put 0 (line (cut_numbers (cut_told (Ok made)))) t
+        → t₂ ≡ put at₁ (list_line (take (length l) nl)) t₁
+        → at₃ ≡ at₂ + length (list_line (take v mp)) → t₃ ≡ put at₂ (list_line (take v mp)) t₂ → length t ≡ output_bytes
+        → (at₃ ≡ length (printed_cut l)) × (t₃ ≡ put 0 (printed_cut l) t)
+    all_put made told t {at₃ = at₃} {t₁ = t₁} {t₂ = t₂} {t₃ = t₃} e₁ h₁ h₂ e₃ h₃ long =
+        let e₃' = rw w.new_map at e₃ in
+        three_lines l (sym (ap (λ (a : CutAnswer). a.code) told)) at₁ at₂ at₃ t t₁ t₂ t₃
+        (e₁ ∙ ap (λ (a : CutAnswer). length (line (cut_numbers a))) told) (h₁ ∙ ap (λ (a : CutAnswer). put 0 (line (cut_numbers a)) t) told)
+        at_list (rw w.new_list at h₂) e₃' (rw w.new_map at h₃) (omega (arith, at_list, w.list_short, w.map_short))

@@ -4,8 +4,7 @@
 --   input_entries   the most entries of the list that the input holds
 --   output_bytes    room for any answer: seven numbers, and two texts of lists, each with a line feed
 --
--- The code names the same numbers as constants. A clause cannot name one, so `max_input` promises that the first is this one, and
--- the lengths of the code's arrays are the others.
+-- The code names the same numbers as constants: `INPUT_BYTES`, `INPUT_ENTRIES` and `OUTPUT_BYTES`.
 use Rattle.std.specs.Prelude.{ℕ, ◌+◌, ◌*◌}
 
 abbrev pub input_bytes : ℕ

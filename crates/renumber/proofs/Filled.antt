@@ -1,6 +1,6 @@
 -- A buffer filled from the front: what is written and what is left to write always make up the whole, and what follows is as it was.
 use Prim.Native.Nat.{ℕ, suc, ◌+◌, ◌<◌}
-use mathlib.Core.Path.{◌≡◌, refl, sym, ◌∙◌, ap}
+use mathlib.Core.Path.{◌≡◌, sym, ◌∙◌, ap}
 use mathlib.Core.List.{List, [], ◌∷◌, ◌++◌, append-nil}
 use native.Mathlib.Numerals.{add-one}
 use lib.ListN.{length, get_or, set, drop, length-append}
@@ -13,9 +13,6 @@ module _ {A : Type 0} where
     pub size : length front ≡ i
     pub is : xs ≡ front ++ drop i old
     pub makes : front ++ rest ≡ whole
-
-  pub filled_start : (old whole : List A) → Filled old whole whole 0 old
-  filled_start old whole = record { front = []; size = refl; is = refl; makes = refl }
 
   pub filled_more : (old whole rest : List A) (i : ℕ) (xs : List A) (d v : A) → i < length old → Filled old whole (v ∷ rest) i xs → Filled old whole rest (i + 1) (set xs i v)
   filled_more old whole rest i xs d v h F =

@@ -5,14 +5,13 @@ use mathlib.Core.Path.{◌≡◌, refl, sym, ◌∙◌, ap}
 use mathlib.Core.Bool.{Bool, true, false, cond, ◌&&◌}
 use mathlib.Core.List.{List, ◌∷◌, ◌++◌, map}
 use native.Mathlib.Numerals.{add-one}
-use native.Mathlib.Nat.{sub-zero}
 use native.Mathlib.Omega.{arith}
 use borrow.Author.Count.{below_more}
 use borrow.Author.Tests.{leb-true, le-leb, lt-leb}
 use lib.IntN.{ℤ, pos}
 use lib.Dec.{eqb}
-use lib.ListN.{length, get_or, set, take, drop, length-set, length-map, take-append-drop}
-use lib.Seq.{get_or-set_same, get_or-set_other, get_or-take, get_or-drop, drop-set-lt, ext_get_or, length-take-le, take_at}
+use lib.ListN.{length, get_or, set, take, drop, length-set, length-map, get_or-append}
+use lib.Seq.{get_or-set_same, get_or-set_other, get_or-take, get_or-drop, ext_get_or, length-take-le, take_at}
 use Rattle.list.specs.Faces.{corners}
 use Rattle.order.specs.Choose.{choose, up_from}
 use Rattle.order.proofs.Lists.{get_or-mapped}
@@ -22,15 +21,18 @@ use Rattle.list.specs.Written.{over}
 use Rattle.groups.specs.Forest.{at, Forest, VertexWords, is_root}
 use Rattle.renumber.specs.Numbered.{CornerWords, root_vertices, Numbered, Renumbered}
 use Rattle.groups.proofs.Counting.{count_down}
-use Rattle.renumber.proofs.Filled.{Filled, filled_start, filled_more, filled_end}
+use Rattle.renumber.proofs.Filled.{Filled, filled_more, filled_end}
 use Rattle.groups.proofs.Roots.{roots_in, forest_earliest, parent_earlier, parent_own, root_by_parent}
 use Rattle.renumber.proofs.Places.{any_corner, roots_split, root_place, place_of_root, distinct_all}
 
--- words that a later part of a list decides
-word_after : (w w' : List ℕ) (p i : ℕ) → drop p w' ≡ drop p w → p ≤ i → at w' i ≡ at w i
-word_after w w' p i e h =
-    let z : i ≡ p + (i - p) = omega arith in
-    rw z (sym (get_or-drop p w' (i - p) 0) ∙ ap (λ (x : List ℕ). at x (i - p)) e ∙ get_or-drop p w (i - p) 0)
+-- the blocks of the vertices and of the parents, behind the first
+pub vertex_word : (w : List ℕ) (c e : ℕ) → e < c → at (take c (drop c w)) e ≡ at w (c + e)
+vertex_word w c e h = get_or-take c (drop c w) e 0 h ∙ get_or-drop c w e 0
+
+pub parent_word : (w : List ℕ) (c e : ℕ) → at (drop c (drop c (drop c w))) e ≡ at w (3 * c + e)
+parent_word w c e =
+    let z : c + (c + (c + e)) ≡ 3 * c + e = omega arith in
+    get_or-drop c (drop c (drop c w)) e 0 ∙ get_or-drop c (drop c w) (c + e) 0 ∙ get_or-drop c w (c + (c + e)) 0 ∙ ap (at w) z
 
 -- the roots of c corners, and those from e on
 abbrev roots : List ℕ → ℕ → List ℕ
@@ -49,27 +51,11 @@ entries_after w c e = map pos (root_vertices w c e (c - e))
 
 pub record NumberLoop (w₀ : List ℕ) (c : ℕ) (w : List ℕ) (old xs : List ℤ) (k e : ℕ) : Type 0 where
   pub few : k ≤ e
-  pub long : length w ≡ length w₀
-  pub rest : drop c w ≡ drop c w₀
+  pub long : length w ≡ c
   pub low : (j : ℕ) → j < e → at w j < c
   pub size : length xs ≡ length old
   pub filled : Filled old (map pos (root_vertices w₀ c 0 c)) (entries_after w₀ c e) k xs
   pub placed : (labels : List ℕ) → Forest w₀ (3 * c) labels → Placed labels c w k e
-
-pub number_start : (w : List ℕ) (c : ℕ) (old : List ℤ) → NumberLoop w c w old old 0 0
-number_start w c old =
-    record {
-      few = omega arith;
-      long = refl;
-      rest = refl;
-      low = λ j h. absurd (omega arith);
-      size = refl;
-      filled = rw (sub-zero c) (filled_start old (map pos (root_vertices w c 0 c)));
-      placed = λ labels F. record { counted = all labels; numbers = λ j h. absurd (omega arith) };
-    }
-  where
-    all : (labels : List ℕ) → 0 + length (roots_after labels c 0) ≡ length (roots labels c)
-    all labels = rw (sub-zero c) (omega arith)
 
 entries_split : (w : List ℕ) (c e : ℕ) → e < c → (t : Bool) → is_root w c e ≡ t → entries_after w c e ≡ cond t (pos (at w (c + e)) ∷ entries_after w c (e + 1)) (entries_after w c (e + 1))
 entries_split w c e h true q = rw (count_down c e h, add-one e, q)
@@ -77,75 +63,62 @@ entries_split w c e h false q = rw (count_down c e h, add-one e, q)
 
 -- the two turns of the loop at e
 pub record NumberTurn (w₀ : List ℕ) (c : ℕ) (w : List ℕ) (old xs : List ℤ) (k e : ℕ) : Type 0 where
-  pub child : at w (3 * c + e) < e → NumberLoop w₀ c (set w e (at w (at w (3 * c + e)))) old xs k (e + 1)
-  pub root : e ≤ at w (3 * c + e) → NumberLoop w₀ c (set w e k) old (set xs k (pos (at w (c + e)))) (k + 1) (e + 1)
+  pub child : at w₀ (3 * c + e) < e → NumberLoop w₀ c (set w e (at w (at w₀ (3 * c + e)))) old xs k (e + 1)
+  pub root : e ≤ at w₀ (3 * c + e) → NumberLoop w₀ c (set w e k) old (set xs k (pos (at w₀ (c + e)))) (k + 1) (e + 1)
 
 module _ (w₀ : List ℕ) (c : ℕ) (W : VertexWords w₀ c (2 ^ 31)) (w : List ℕ) (old xs : List ℤ) (k e : ℕ) (h : e < c) (N : NumberLoop w₀ c w old xs k e) where
-  parent : at w (3 * c + e) ≡ at w₀ (3 * c + e)
-  parent = word_after w₀ w c (3 * c + e) N.rest (omega arith)
-
-  vertex : at w (c + e) ≡ at w₀ (c + e)
-  vertex = word_after w₀ w c (c + e) N.rest (omega arith)
-
-  -- the vertex is an entry
-  pub vertex_fits : at w (c + e) < 2 ^ 31
-  vertex_fits = omega (arith, vertex, W.inside e h)
-
   numbers_more : (labels : List ℕ) (x : ℕ) → Placed labels c w k e → x ≡ place_in (at labels e) (roots labels c) → (j : ℕ) → j < e + 1 → at (set w e x) j ≡ place_in (at labels j) (roots labels c)
   numbers_more labels x M q =
       below_more (λ (j : ℕ). at (set w e x) j ≡ place_in (at labels j) (roots labels c)) e
       (λ j l. get_or-set_other w e j x 0 (omega arith) ∙ M.numbers j l)
-      (get_or-set_same w e x 0 (omega (arith, N.long, W.table.long)) ∙ q)
+      (get_or-set_same w e x 0 (omega (arith, N.long)) ∙ q)
 
   low_more : (x : ℕ) → x < c → (j : ℕ) → j < e + 1 → at (set w e x) j < c
   low_more x l =
       below_more (λ (j : ℕ). at (set w e x) j < c) e
       (λ j i. omega (arith, get_or-set_other w e j x 0 (omega arith), N.low j i))
-      (omega (arith, get_or-set_same w e x 0 (omega (arith, N.long, W.table.long))))
+      (omega (arith, get_or-set_same w e x 0 (omega (arith, N.long))))
 
-  number_child : at w (3 * c + e) < e → NumberLoop w₀ c (set w e (at w (at w (3 * c + e)))) old xs k (e + 1)
+  number_child : at w₀ (3 * c + e) < e → NumberLoop w₀ c (set w e (at w (at w₀ (3 * c + e)))) old xs k (e + 1)
   number_child l =
       record {
         few = omega (arith, N.few);
-        long = length-set w e (at w (at w (3 * c + e))) ∙ N.long;
-        rest = drop-set-lt c w e (at w (at w (3 * c + e))) h ∙ N.rest;
-        low = low_more (at w (at w (3 * c + e))) (N.low (at w (3 * c + e)) l);
+        long = length-set w e (at w (at w₀ (3 * c + e))) ∙ N.long;
+        low = low_more (at w (at w₀ (3 * c + e))) (N.low (at w₀ (3 * c + e)) l);
         size = N.size;
-        filled = rw (entries_split w₀ c e h false (lt-leb e (at w₀ (3 * c + e)) (omega (arith, parent)))) at N.filled;
+        filled = rw (entries_split w₀ c e h false (lt-leb e (at w₀ (3 * c + e)) l)) at N.filled;
         placed = λ labels F. child labels F (N.placed labels F);
       }
     where
-      child : (labels : List ℕ) → Forest w₀ (3 * c) labels → Placed labels c w k e → Placed labels c (set w e (at w (at w (3 * c + e)))) k (e + 1)
+      child : (labels : List ℕ) → Forest w₀ (3 * c) labels → Placed labels c w k e → Placed labels c (set w e (at w (at w₀ (3 * c + e)))) k (e + 1)
       child labels F M =
           let i : e < length labels = omega (arith, F.long, W.table.long) in
-          let out = parent_earlier w₀ (3 * c) labels F e i (omega (arith, parent)) in
+          let out = parent_earlier w₀ (3 * c) labels F e i l in
           record {
             counted = rw (roots_split any_corner labels c e h false (rw out)) at M.counted;
             numbers =
-                numbers_more labels (at w (at w (3 * c + e))) M
-                (M.numbers (at w (3 * c + e)) l ∙ ap (λ (x : ℕ). place_in x (roots labels c)) (rw parent (F.same e i)));
+                numbers_more labels (at w (at w₀ (3 * c + e))) M
+                (M.numbers (at w₀ (3 * c + e)) l ∙ ap (λ (x : ℕ). place_in x (roots labels c)) (F.same e i));
           }
 
-  number_root : c ≤ length old → e ≤ at w (3 * c + e) → NumberLoop w₀ c (set w e k) old (set xs k (pos (at w (c + e)))) (k + 1) (e + 1)
+  number_root : c ≤ length old → e ≤ at w₀ (3 * c + e) → NumberLoop w₀ c (set w e k) old (set xs k (pos (at w₀ (c + e)))) (k + 1) (e + 1)
   number_root room l =
       record {
         few = omega (arith, N.few);
         long = length-set w e k ∙ N.long;
-        rest = drop-set-lt c w e k h ∙ N.rest;
         low = low_more k (omega (arith, N.few));
-        size = length-set xs k (pos (at w (c + e))) ∙ N.size;
+        size = length-set xs k (pos (at w₀ (c + e))) ∙ N.size;
         filled =
-            rw vertex
-            (filled_more old (map pos (root_vertices w₀ c 0 c)) (entries_after w₀ c (e + 1)) k xs (pos 0) (pos (at w₀ (c + e))) (omega (arith, N.few))
-            (rw (entries_split w₀ c e h true (le-leb e (at w₀ (3 * c + e)) (omega (arith, parent)))) at N.filled));
+            filled_more old (map pos (root_vertices w₀ c 0 c)) (entries_after w₀ c (e + 1)) k xs (pos 0) (pos (at w₀ (c + e))) (omega (arith, N.few))
+            (rw (entries_split w₀ c e h true (le-leb e (at w₀ (3 * c + e)) l)) at N.filled);
         placed = λ labels F. root labels F (N.placed labels F);
       }
     where
       root : (labels : List ℕ) → Forest w₀ (3 * c) labels → Placed labels c w k e → Placed labels c (set w e k) (k + 1) (e + 1)
       root labels F M =
           let i : e < length labels = omega (arith, F.long, W.table.long) in
-          let own : at w₀ (3 * c + e) ≡ e = omega (arith, parent, F.down e i) in
-          let is : (eqb (at labels e) e && true) ≡ true = rw (parent_own w₀ (3 * c) labels F e i (omega arith)) in
+          let own : at w₀ (3 * c + e) ≡ e = omega (arith, F.down e i) in
+          let is : (eqb (at labels e) e && true) ≡ true = rw (parent_own w₀ (3 * c) labels F e i l) in
           let z : 0 + c - e ≡ c - e = omega arith in
           let place : place_in e (roots labels c) + length (roots_after labels c e) ≡ length (roots labels c) = rw z at (root_place any_corner labels c 0 e (omega arith) (omega arith) is) in
           let split : k + suc (length (roots_after labels c (e + 1))) ≡ length (roots labels c) = rw (roots_split any_corner labels c e h true is) at M.counted in
@@ -171,24 +144,20 @@ module _ (w₀ : List ℕ) (c : ℕ) (size : length w₀ ≡ 4 * c) (w : List �
         let all : k + 0 ≡ length (roots labels c) = rw none at (N.placed labels F).counted in
         rw distinct_is (omega arith)
 
-    first : take c w ≡ new_numbers labels
+    first : w ≡ new_numbers labels
     unfolding new_numbers
     first =
-        let front : length (take c w) ≡ c = length-take-le c w (omega (arith, N.long)) in
         let whole : length (map (λ (x : ℕ). place_in x (distinct labels)) labels) ≡ c = length-map labels (λ (x : ℕ). place_in x (distinct labels)) ∙ count in
-        ext_get_or 0 (take c w) (map (λ (x : ℕ). place_in x (distinct labels)) labels) (front ∙ sym whole)
-        (λ i l. get_or-take c w i 0 (omega arith) ∙ (N.placed labels F).numbers i (omega arith) ∙ rw (← distinct_is) (sym (get_or-mapped (λ (x : ℕ). place_in x (distinct labels)) labels i 0 0 (omega arith))))
+        ext_get_or 0 w (map (λ (x : ℕ). place_in x (distinct labels)) labels) (N.long ∙ sym whole)
+        (λ i l. (N.placed labels F).numbers i (omega (arith, N.long)) ∙ rw (← distinct_is) (sym (get_or-mapped (λ (x : ℕ). place_in x (distinct labels)) labels i 0 0 (omega (arith, N.long)))))
 
-    numbers_written : w ≡ new_numbers labels ++ drop c w₀
-    numbers_written = sym (take-append-drop c w) ∙ rw (first, N.rest)
-
-  pub numbered : Numbered w₀ c w old xs k
+  pub numbered : Numbered w₀ c (w ++ drop c w₀) old xs k
   numbered =
       let none : c - e ≡ 0 = omega arith in
       record {
-        low = λ j i. N.low j (omega arith);
+        low = λ j i. rw (get_or-append w (drop c w₀) 0 j (omega (arith, N.long))) (N.low j (omega arith));
         back = (filled_end old (map pos (root_vertices w₀ c 0 c)) k xs (rw none at N.filled)).0;
-        numbers = numbers_written;
+        numbers = λ labels F. ap (λ ns. ns ++ drop c w₀) (first labels F);
         count = vertices_counted;
       }
 

@@ -1,28 +1,31 @@
 -- The walk over a list's entries that counts the corners met, and the new list that is written on the way.
-use Prim.Native.Nat.{ℕ, suc, ◌+◌, ◌≤◌, ◌<◌}
-use mathlib.Core.Path.{◌≡◌, refl, ◌∙◌, ap}
-use mathlib.Core.Bool.{true, false}
-use mathlib.Core.List.{List, [], ◌∷◌, append-nil}
+use Prim.Native.Nat.{ℕ, zero, suc, ◌+◌, ◌≤◌, ◌<◌}
+use mathlib.Core.Path.{◌≡◌, refl, sym, ◌∙◌, ap}
+use mathlib.Core.Bool.{true, false, true≢false}
+use mathlib.Core.List.{List, [], ◌∷◌}
 use native.Mathlib.Numerals.{add-one}
 use native.Mathlib.Omega.{arith}
-use lib.IntN.{ℤ, pos}
-use lib.ListN.{length, get_or, set, drop, length-drop, length-set, drop_of_length-le}
+use lib.IntN.{ℤ, pos, negsuc}
+use lib.ListN.{length, get_or, set, drop, length-drop, length-set}
 use lib.Seq.{drop-cons}
 use Rattle.list.specs.Faces.{is_end, corners}
 use Rattle.renumber.specs.Renumber.{refilled}
-use Rattle.renumber.proofs.Filled.{Filled, filled_start, filled_more, filled_end}
+use Rattle.renumber.proofs.Filled.{Filled, filled_more}
 
 refilled-end : (x : ℤ) (xs : List ℤ) (ks : List ℕ) → is_end x ≡ true → refilled (x ∷ xs) ks ≡ x ∷ refilled xs ks
 refilled-end x xs [] e = refl
 refilled-end x xs (k ∷ ks) e = rw e
 
+-- the one entry that ends a face
+pub end_is : (x : ℤ) → is_end x ≡ true → x ≡ negsuc 0
+end_is (pos k) q = absurd (true≢false (sym q))
+end_is (negsuc zero) q = refl
+end_is (negsuc (suc k)) q = absurd (true≢false (sym q))
+
 -- the walk stands at position i, and e corners are met
 pub record Walk (l : List ℤ) (e i : ℕ) : Type 0 where
   pub left : corners (drop i l) ≡ drop e (corners l)
   pub met : e ≤ length (corners l)
-
-walk_start : (l : List ℤ) → Walk l 0 0
-walk_start l = record { left = refl; met = omega arith }
 
 module _ (l : List ℤ) (e i : ℕ) (h : i < length l) (W : Walk l e i) where
   walk_end : is_end (get_or l i (pos 0)) ≡ true → Walk l e (i + 1)
@@ -46,9 +49,6 @@ pub record ListLoop (l : List ℤ) (w : List ℕ) (old xs : List ℤ) (e i : ℕ
   pub walk : Walk l e i
   pub size : length xs ≡ length old
   pub filled : Filled old (refilled l w) (refilled (drop i l) (drop e w)) i xs
-
-pub list_start : (l : List ℤ) (w : List ℕ) (old : List ℤ) → ListLoop l w old old 0 0
-list_start l w old = record { walk = walk_start l; size = refl; filled = filled_start old (refilled l w) }
 
 -- the two turns of the loop at position i
 pub record ListTurn (l : List ℤ) (w : List ℕ) (old xs : List ℤ) (e i : ℕ) : Type 0 where
@@ -80,9 +80,3 @@ module _ (l : List ℤ) (w : List ℕ) (old xs : List ℤ) (e i : ℕ) (room : l
 
   pub list_turn : ListTurn l w old xs e i
   list_turn = record { end = list_end; corner = list_corner }
-
-pub list_done : (l : List ℤ) (w : List ℕ) (old xs : List ℤ) (e i : ℕ) → length old ≡ length l → length l ≤ i → i ≤ length l → ListLoop l w old xs e i → xs ≡ refilled l w
-list_done l w old xs e i room h k L =
-    let none : Filled old (refilled l w) [] i xs = rw (drop_of_length-le l {i = i} h) at L.filled in
-    let end = filled_end old (refilled l w) i xs none in
-    end.0 ∙ rw (drop_of_length-le old {i = length (refilled l w)} (omega (arith, end.1))) (append-nil (refilled l w))

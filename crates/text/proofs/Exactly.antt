@@ -27,9 +27,9 @@ use Rattle.text.specs.Tokens.{Token, opening, closing, number, start_of, tokens}
 use Rattle.text.specs.Reading.{refused, accepted, room_of, inside, opened, read_of}
 use Rattle.text.specs.Faults.{HasForm, NoForm, InRange, OutOfRange, Fine, none_left, one_more, Eleven, no_bracket, closed_first, number_first, never_closed, opened_twice, bad_number, second_thing, Twelve, too_large, Thirteen, no_room, Whole, of_the_form}
 use Rattle.text.specs.Writing.{written, refused_write, accepted_write, write_of}
-use Rattle.number.specs.declared.Number.TheVariants.{Value, Refused}
-use Rattle.text.specs.declared.ReadAnswer.{ReadAnswer}
-use Rattle.text.specs.declared.WriteAnswer.{WriteAnswer}
+use Rattle.number.specs.Numbers.{Value, Refused}
+use Rattle.text.specs.Reading.{ReadAnswer}
+use Rattle.text.specs.Writing.{WriteAnswer}
 use Rattle.text.proofs.Writes.{write_long, write_short, write_fits}
 
 -- ---- the parts of an answer

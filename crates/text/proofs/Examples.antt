@@ -8,7 +8,7 @@ use lib.IntN.{pos, negsuc}
 use Rattle.text.specs.Reading.{refused, accepted, read_of, read_into}
 use Rattle.number.specs.Decimal.{width}
 use Rattle.text.specs.Writing.{written, write_of, refused_write, accepted_write}
-use Rattle.text.specs.declared.ReadAnswer.{ReadAnswer}
+use Rattle.text.specs.Reading.{ReadAnswer}
 
 pub record Row : Type 0 where
   pub text : List ℕ

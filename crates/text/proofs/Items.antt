@@ -10,20 +10,29 @@ use lib.IntN.{ℤ}
 use lib.Dec.{ltb, leb}
 use lib.ListN.{length, drop, get_or}
 use lib.Seq.{drop-cons}
-use borrow.Author.Tests.{ne_eqb, eq-eqb}
-use Rattle.number.proofs.Bools.{clash}
+use borrow.Author.Tests.{ne_eqb, eq-eqb, ltb-true}
+use Rattle.std.proofs.lemmas.Grind.{get_or_default_zero}
 use Rattle.number.specs.Bytes.{open_byte, close_byte, in_number}
 use Rattle.number.specs.Codes.{not_of_the_form, out_of_range, too_many}
-use Rattle.number.specs.Numbers.{number_bytes, number_of, number_at, code_of, place_of, magnitude_of, unsigned, is_minus, signed, greatest, of_magnitude}
+use Rattle.number.specs.Numbers.{number_bytes, number_of, number_at, number_told, magnitude_of, unsigned, is_minus, signed, greatest, of_magnitude}
 use Rattle.text.specs.Tokens.{Token, opening, closing, number, tokens_at}
-use Rattle.text.specs.Reading.{refused, accepted, behind, counted, inside, values_of, value_then}
-use Rattle.text.specs.Steps.{blank, item_of, item_of_number}
-use Rattle.number.specs.declared.Number.{Number}
-use Rattle.number.specs.declared.Number.TheVariants.{Value, Refused}
-use Rattle.text.specs.declared.ReadAnswer.{ReadAnswer}
-use Rattle.text.specs.declared.reader.Item.TheVariants.{Entry, Closed, Fault}
+use Rattle.text.specs.Reading.{refused, accepted, behind, counted, inside, values_of, value_then, read_fault}
+use Rattle.text.specs.Steps.{blank, item_of, item_of_number, item_told}
+use Rattle.number.specs.Numbers.{Number}
+use Rattle.number.specs.Numbers.{Value, Refused}
+use Rattle.text.specs.Reading.{ReadAnswer}
+use Rattle.text.specs.Steps.{Entry, Closed, Fault}
 use Rattle.number.proofs.Runs.{run_within}
+use Rattle.number.specs.declared.NumberFault.{NumberFault}
+use Rattle.number.specs.declared.NumberFault.TheVariants.{NotOfTheForm, OutOfRange}
+use Rattle.std.specs.Prelude.{Result, Ok, Err, Option as StdOption, Some, None}
+use Rattle.text.specs.declared.ReadFault.{ReadFault}
+use Rattle.text.specs.declared.reader.Entry as declared
 use Rattle.text.proofs.Lexing.{skip_tokens, skip_end, skip_byte, skip_token, in_number_lem, number_tokens}
+
+-- a byte that `get` finds at place q is the one there
+pub found_byte : (t : List ℕ) (q b : ℕ) → true ≡ ltb q (length t) → b ≡ get_or t q b → (q < length t) × (get_or t q 0 ≡ b)
+found_byte t q b h e = let w = ltb-true q (length t) (sym h) in (w, sym (get_or_default_zero t q b w) ∙ sym e)
 
 -- ---- the things from place i on, by the byte at the first place q that does not separate
 
@@ -72,8 +81,9 @@ module _ (t : List ℕ) (i q : ℕ) (at : q ≡ i + blank false (drop i t)) wher
       by_open (no o) = by_close o (ℕ_discrete (get_or t q 0) close_byte)
 
 -- a refused number is the fault that the reader makes of it
-pub item_refused : (q : ℕ) (n : Number) (c p : ℕ) → n ≡ Refused c p → Fault (code_of n) (place_of n) ≡ item_of_number q n
-item_refused q n c p e = rw e
+pub item_refused : (q nx : ℕ) (f : NumberFault) → item_told nx (Err (read_fault f)) ≡ item_of_number q (number_told (Err f))
+item_refused q nx (NotOfTheForm p) = refl
+item_refused q nx (OutOfRange p) = refl
 
 -- ---- what the things of a text from place i on can be
 
@@ -109,16 +119,21 @@ view t i = by_end (dec_lt (i + blank false (drop i t)) (length t))
 
 -- ---- what an item says of the things from its place on
 
+abbrev pub is_entry : Result (StdOption declared.Entry) ReadFault → Bool
+is_entry (Ok (Some e)) = true
+is_entry (Ok None) = false
+is_entry (Err f) = false
+
 -- a number that is read ends where its bytes end
 number_next : (p e : ℕ) (bs : List ℕ) (v : ℤ) (nx : ℕ) → number_of p e bs ≡ Value v nx → nx ≡ e
 number_next p e bs v nx h = by_magnitude (magnitude_of (unsigned bs)) h
   where
     by_range : (m : ℕ) (r : Bool) → cond r (Value (signed (is_minus bs) m) e) (Refused out_of_range p) ≡ Value v nx → nx ≡ e
     by_range m true k = cc
-    by_range m false k = clash (cc)
+    by_range m false k = cc
 
     by_magnitude : (o : Option ℕ) → of_magnitude p e (is_minus bs) o ≡ Value v nx → nx ≡ e
-    by_magnitude none k = clash (cc)
+    by_magnitude none k = cc
     by_magnitude (some m) k = by_range m (leb m (greatest (is_minus bs))) k
 
 pub record EntryAt (t : List ℕ) (i p : ℕ) (v : ℤ) (nx : ℕ) : Type 0 where
@@ -134,7 +149,7 @@ module _ (t : List ℕ) (i : ℕ) where
     where
       by_number : (q : ℕ) (bs : List ℕ) → tokens_at t i ≡ number q bs ∷ tokens_at t (q + length bs) → i < q + length bs → q + length bs ≤ length t
           → (n : Number) → number_of q (q + length bs) bs ≡ n → item_of_number q n ≡ Entry p v nx → EntryAt t i p v nx
-      by_number q bs e l w (Refused c r) k j = clash (cc)
+      by_number q bs e l w (Refused c r) k j = cc
       by_number q bs e l w (Value u n) k j =
           let hp : q ≡ p = cc in
           let hv : u ≡ v = cc in
@@ -150,9 +165,9 @@ module _ (t : List ℕ) (i : ℕ) where
           })
 
       by_view : View t i → EntryAt t i p v nx
-      by_view (ended e) = let k : Fault not_of_the_form (length t) ≡ Entry p v nx = rw e at h in clash (cc)
-      by_view (opens q e) = let k : Fault not_of_the_form q ≡ Entry p v nx = rw e at h in clash (cc)
-      by_view (closes q e) = let k : Closed (suc q) ≡ Entry p v nx = rw e at h in clash (cc)
+      by_view (ended e) = let k : Fault not_of_the_form (length t) ≡ Entry p v nx = rw e at h in cc
+      by_view (opens q e) = let k : Fault not_of_the_form q ≡ Entry p v nx = rw e at h in cc
+      by_view (closes q e) = let k : Closed (suc q) ≡ Entry p v nx = rw e at h in cc
       by_view (counts q bs e l w) = by_number q bs e l w (number_of q (q + length bs) bs) refl (rw e at h)
 
   pub inside_entry : (m n p : ℕ) (v : ℤ) (nx : ℕ) → item_of (length t) (tokens_at t i) ≡ Entry p v nx
@@ -166,12 +181,12 @@ module _ (t : List ℕ) (i : ℕ) where
   inside_closed m n nx h = by_view (view t i)
     where
       by_number : (q : ℕ) (x : Number) → item_of_number q x ≡ Closed nx → ⊥
-      by_number q (Value v e) k = clash (cc)
-      by_number q (Refused c r) k = clash (cc)
+      by_number q (Value v e) k = cc
+      by_number q (Refused c r) k = cc
 
       by_view : View t i → inside (length t) m n (tokens_at t i) ≡ behind n (tokens_at t nx)
-      by_view (ended e) = let k : Fault not_of_the_form (length t) ≡ Closed nx = rw e at h in clash (cc)
-      by_view (opens q e) = let k : Fault not_of_the_form q ≡ Closed nx = rw e at h in clash (cc)
+      by_view (ended e) = let k : Fault not_of_the_form (length t) ≡ Closed nx = rw e at h in cc
+      by_view (opens q e) = let k : Fault not_of_the_form q ≡ Closed nx = rw e at h in cc
       by_view (closes q e) = let k : Closed (suc q) ≡ Closed nx = rw e at h in let w : suc q ≡ nx = cc in rw (e, w)
       by_view (counts q bs e l w) = absurd (by_number q (number_of q (q + length bs) bs) (rw e at h))
 
@@ -179,18 +194,24 @@ module _ (t : List ℕ) (i : ℕ) where
   inside_fault m n c p h = by_things (tokens_at t i) h
     where
       by_number : (q : ℕ) (x : Number) (next : ReadAnswer) → item_of_number q x ≡ Fault c p → counted q (ltb n m) x next ≡ refused c p
-      by_number q (Value v e) next k = clash (cc)
+      by_number q (Value v e) next k = cc
       by_number q (Refused d r) next k = let a : d ≡ c = cc in let b : r ≡ p = cc in rw (a, b)
 
       by_things : (ks : List Token) → item_of (length t) ks ≡ Fault c p → inside (length t) m n ks ≡ refused c p
       by_things [] k = let a : not_of_the_form ≡ c = cc in let b : length t ≡ p = cc in rw (← a, ← b)
       by_things (opening q ∷ ks) k = let a : not_of_the_form ≡ c = cc in let b : q ≡ p = cc in rw (← a, ← b)
-      by_things (closing q ∷ ks) k = clash (cc)
+      by_things (closing q ∷ ks) k = cc
       by_things (number q bs ∷ ks) k = by_number q (number_of q (q + length bs) bs) (inside (length t) m (suc n) ks) k
 
-  pub values_other : ((p : ℕ) (v : ℤ) (nx : ℕ) → item_of (length t) (tokens_at t i) ≡ Entry p v nx → ⊥) → values_of (tokens_at t i) ≡ []
-  values_other h = by_things (tokens_at t i) h
+  pub values_other : (r : Result (StdOption declared.Entry) ReadFault) (at : ℕ) → is_entry r ≡ false → item_told at r ≡ item_of (length t) (tokens_at t i)
+      → values_of (tokens_at t i) ≡ []
+  values_other r at n h = by_things (tokens_at t i) (λ p v nx e. entry_only r p v nx n (h ∙ e))
     where
+      entry_only : (r : Result (StdOption declared.Entry) ReadFault) (p : ℕ) (v : ℤ) (nx : ℕ) → is_entry r ≡ false → item_told at r ≡ Entry p v nx → ⊥
+      entry_only (Ok (Some m)) p v nx k e = cc
+      entry_only (Ok None) p v nx k e = cc
+      entry_only (Err f) p v nx k e = cc
+
       by_number : (q : ℕ) (x : Number) (vs : List ℤ) → ((p : ℕ) (v : ℤ) (nx : ℕ) → item_of_number q x ≡ Entry p v nx → ⊥) → value_then x vs ≡ []
       by_number q (Value v e) vs k = absurd (k q v e refl)
       by_number q (Refused c r) vs k = refl

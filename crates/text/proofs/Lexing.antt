@@ -10,7 +10,7 @@ use lib.Dec.{eqb}
 use lib.ListN.{length, drop, get_or, length-drop, drop_of_length-le}
 use lib.Seq.{drop-cons, drop-drop, get_or-drop}
 use borrow.Author.Tests.{ne_eqb, eq-eqb, not-true}
-use Rattle.number.proofs.Bools.{clash, or_left, or_right}
+use Rattle.std.proofs.lemmas.Bool.{or_parts}
 use Rattle.number.specs.Bytes.{hash, open_byte, close_byte, is_separator, in_number, in_comment, in_gap}
 use Rattle.number.specs.Numbers.{number_bytes}
 use Rattle.text.specs.Tokens.{Token, opening, closing, number, start_of, push, token, tokens, tokens_at}
@@ -78,13 +78,18 @@ module _ (t : List ℕ) (i q : ℕ) (at : q ≡ i + blank false (drop i t)) wher
   pub skip_token : q < length t → tokens_at t i ≡ token q (get_or t q 0) (tokens_at t (suc q))
   skip_token h =
       let g = skip_byte h in
-      skip_tokens t i ∙ rw (← at, drop-cons t q 0 h, g, or_right false (eqb (get_or t q 0) hash) (or_left (false || eqb (get_or t q 0) hash) (is_separator (get_or t q 0)) g))
+      let two = or_parts (false || eqb (get_or t q 0) hash) (is_separator (get_or t q 0)) g in
+      let one = or_parts false (eqb (get_or t q 0) hash) two.0 in
+      skip_tokens t i ∙ rw (← at, drop-cons t q 0 h, g, one.1)
 
 -- ---- a number
 
 -- a byte that neither separates nor is a bracket belongs to a number
 pub in_number_lem : (b : ℕ) → in_gap false b ≡ false → eqb b open_byte ≡ false → eqb b close_byte ≡ false → in_number b ≡ true
-in_number_lem b g o c = rw (or_right (false || eqb b hash) (is_separator b) g, or_right false (eqb b hash) (or_left (false || eqb b hash) (is_separator b) g), o, c)
+in_number_lem b g o c =
+    let two = or_parts (false || eqb b hash) (is_separator b) g in
+    let one = or_parts false (eqb b hash) two.0 in
+    rw (two.1, one.1, o, c)
 
 -- the other way round: a byte of a number neither separates nor is a bracket
 record Plain (b : ℕ) : Type 0 where
@@ -96,15 +101,14 @@ record Plain (b : ℕ) : Type 0 where
 plain : (b : ℕ) → in_number b ≡ true → Plain b
 plain b e =
     let all = not-true (is_separator b || eqb b hash || eqb b open_byte || eqb b close_byte) e in
-    let three = or_left (is_separator b || eqb b hash || eqb b open_byte) (eqb b close_byte) all in
-    let two = or_left (is_separator b || eqb b hash) (eqb b open_byte) three in
-    let sep = or_left (is_separator b) (eqb b hash) two in
-    let hsh = or_right (is_separator b) (eqb b hash) two in
+    let three = or_parts _ (eqb b close_byte) all in
+    let two = or_parts _ (eqb b open_byte) three.0 in
+    let one = or_parts (is_separator b) (eqb b hash) two.0 in
     record {
-      gap = rw (hsh, sep);
-      comment = hsh;
-      no_open = or_right (is_separator b || eqb b hash) (eqb b open_byte) three;
-      no_close = or_right (is_separator b || eqb b hash || eqb b open_byte) (eqb b close_byte) all;
+      gap = rw (one.1, one.0);
+      comment = one.1;
+      no_open = two.1;
+      no_close = three.1;
     }
 
 -- the first of the things ks starts at place p or later
@@ -165,7 +169,7 @@ push_ends p b d s e = go (in_gap false d) (eqb d open_byte) (eqb d close_byte) r
     go false false true x y z = refl
     go false false false x y z =
         let w : true ≡ false = sym (in_number_lem d x y z) ∙ e in
-        clash (cc)
+        cc
 
 -- the bytes behind a byte of a number, as long as they belong to it
 push_run : (p b : ℕ) (s : List ℕ)

@@ -26,9 +26,9 @@ use Rattle.list.specs.Written.{over}
 use Rattle.text.specs.Reading.{accepted, room_of, inside, read_of, values_of, read_into}
 use Rattle.number.specs.Decimal.{width, width_one, width_more, decimal_text}
 use Rattle.text.specs.Writing.{entry_text, joint, entries_text, written, Fits32, AllFit}
-use Rattle.number.specs.declared.Number.TheVariants.{Value}
-use Rattle.text.specs.declared.ReadAnswer.{ReadAnswer}
-use Rattle.number.proofs.Bools.{clash, and_left, and_right}
+use Rattle.number.specs.Numbers.{Value}
+use Rattle.text.specs.Reading.{ReadAnswer}
+use Rattle.std.proofs.lemmas.Bool.{and_parts}
 use Rattle.number.proofs.Putting.{digits_length}
 use Rattle.text.proofs.Lexing.{number_run}
 
@@ -48,7 +48,7 @@ decimal_more a m d (b ∷ bs) e h = go (is_digit b) e (λ k. decimal_more (a * 1
         → (decimal (a * 10 + (b - zero_byte)) bs ≡ some m → decimal (a * 10 + (b - zero_byte)) (bs ++ (zero_byte + d) ∷ []) ≡ some (m * 10 + d))
         → cond y (decimal (a * 10 + (b - zero_byte)) (bs ++ (zero_byte + d) ∷ [])) none ≡ some (m * 10 + d)
     go true k f = f k
-    go false k f = clash (cc)
+    go false k f = cc
 
 -- the shortest decimal of a number has its value
 decimal_small : (n : ℕ) → n < 10 → decimal 0 (decimal_text n) ≡ some n
@@ -74,8 +74,8 @@ decimal_text_lem n = decimal_within n n (omega arith)
 -- a digit belongs to a number and is no sign
 digit_in : (b : ℕ) → is_digit b ≡ true → in_number b ≡ true
 digit_in b e =
-    let lo = leb-true zero_byte b (and_left (leb zero_byte b) (leb b nine_byte) e) in
-    let hi = leb-true b nine_byte (and_right (leb zero_byte b) (leb b nine_byte) e) in
+    let lo = leb-true zero_byte b (and_parts (leb zero_byte b) (leb b nine_byte) e).0 in
+    let hi = leb-true b nine_byte (and_parts (leb zero_byte b) (leb b nine_byte) e).1 in
     let other : (x : ℕ) → (b ≡ x → ⊥) → eqb b x ≡ false = λ x h. ne_eqb b x h in
     rw (
       other tab (λ k. omega arith),
@@ -94,7 +94,7 @@ first_digit a m b bs e = go (is_digit b) refl e
   where
     go : (y : Bool) → is_digit b ≡ y → cond y (decimal (a * 10 + (b - zero_byte)) bs) none ≡ some m → is_digit b ≡ true
     go true k f = k
-    go false k f = clash (cc)
+    go false k f = cc
 
 pub rest_decimal : (a m b : ℕ) (bs : List ℕ) → decimal a (b ∷ bs) ≡ some m → decimal (a * 10 + (b - zero_byte)) bs ≡ some m
 rest_decimal a m b bs e = rw (first_digit a m b bs e) at e
@@ -110,7 +110,7 @@ pub digits_plain : (m : ℕ) (bs : List ℕ) → 0 < length bs → decimal 0 bs 
 digits_plain m [] h e = absurd (omega arith)
 digits_plain m (b ∷ bs) h e =
     let d = first_digit 0 m b bs e in
-    let lo = leb-true zero_byte b (and_left (leb zero_byte b) (leb b nine_byte) d) in
+    let lo = leb-true zero_byte b (and_parts (leb zero_byte b) (leb b nine_byte) d).0 in
     let minus = ne_eqb b minus_byte (λ k. omega arith) in
     (minus, rw (minus, ne_eqb b plus_byte (λ k. omega arith)) e)
 
@@ -129,7 +129,7 @@ width_some n = go (dec_lt n 10)
 -- ---- no digits of the same value are fewer
 
 digit_small : (b : ℕ) → is_digit b ≡ true → b - zero_byte < 10
-digit_small b e = omega (arith, leb-true b nine_byte (and_right (leb zero_byte b) (leb b nine_byte) e))
+digit_small b e = omega (arith, leb-true b nine_byte (and_parts (leb zero_byte b) (leb b nine_byte) e).1)
 
 width_step : (a d : ℕ) → d < 10 → width (a * 10 + d) ≤ suc (width a)
 width_step a d h = go (dec_lt (a * 10 + d) 10)
@@ -150,7 +150,7 @@ width_grows a m (b ∷ bs) e =
 
 -- one or more digits of value m are at least as many as the writer puts
 pub shortest : (m : ℕ) (bs : List ℕ) → magnitude_of bs ≡ some m → length (decimal_text m) ≤ length bs
-shortest m [] e = clash (cc)
+shortest m [] e = cc
 shortest m (b ∷ bs) e =
     let d = digit_small b (first_digit 0 m b bs e) in
     omega (arith, digits_length (width m) m, width_one (0 * 10 + (b - zero_byte)) (omega arith), width_grows (0 * 10 + (b - zero_byte)) m bs (rest_decimal 0 m b bs e))
@@ -180,7 +180,7 @@ run_token p (b ∷ bs) r h e = go (in_number b) refl e
     go true k f =
         let w : number_bytes (bs ++ r) ≡ bs = cc in
         number_run p b (bs ++ r) k ∙ rw (w, drop-append_seam bs r)
-    go false k f = clash (cc)
+    go false k f = cc
 
 entry_some : (x : ℤ) → 0 < length (entry_text x)
 entry_some (pos m) = width_some m

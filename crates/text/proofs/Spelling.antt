@@ -9,7 +9,6 @@ use mathlib.Core.Option.{some}
 use lib.Dec.{eqb}
 use lib.ListN.{length}
 use borrow.Author.Tests.{eqb-true}
-use Rattle.number.proofs.Bools.{clash}
 use Rattle.number.specs.Bytes.{plus_byte, minus_byte, zero_byte}
 use Rattle.number.specs.Numbers.{decimal, magnitude_of}
 use Rattle.text.specs.Faults.{AllDigits, Sign, no_sign, plus, minus, Spelled, HasForm}
@@ -33,11 +32,11 @@ spelled_form sign digits minus h k e = digits_signed k digits h e
 
 -- one or more digits behind the sign that was taken off
 some_digits : (k : ℕ) (bs : List ℕ) → magnitude_of bs ≡ some k → (0 < length bs) × AllDigits bs
-some_digits k [] e = clash (cc)
+some_digits k [] e = cc
 some_digits k (b ∷ bs) e = (omega arith, value_digits 0 k (b ∷ bs) e)
 
 form_spelled : (bs : List ℕ) (k : ℕ) → HasForm bs k → Spelled bs
-form_spelled [] k e = clash (cc)
+form_spelled [] k e = cc
 form_spelled (b ∷ bs) k e = go (eqb b minus_byte) (eqb b plus_byte) refl refl
   where
     taken : (x : ℕ) → Sign (x ∷ []) → b ≡ x → magnitude_of bs ≡ some k → Spelled (b ∷ bs)

@@ -1,28 +1,30 @@
 -- A whole text: what the opening bracket decides, and that an accepted text gives as many entries as it counts.
-use mathlib.Core.Path.{◌≡◌, refl, ap, ◌∙◌}
+use mathlib.Core.Path.{◌≡◌, refl, ap, sym, ◌∙◌}
 use Prim.Native.Nat.{ℕ, suc, ◌+◌, ◌≤◌, ◌<◌}
 use native.Mathlib.Numerals.{add-one}
 use native.Mathlib.Omega.{arith}
 use mathlib.Core.List.{List, [], ◌∷◌}
-use mathlib.Core.Bool.{Bool, true, false, cond, ◌&&◌}
+use mathlib.Core.Bool.{Bool, true, false, cond}
 use mathlib.Core.Option.{Option, none, some}
 use lib.IntN.{ℤ}
-use lib.Dec.{eqb, ltb, leb}
+use lib.Dec.{ltb, leb}
 use lib.ListN.{length, take, get_or}
 use lib.Seq.{take_all}
-use borrow.Author.Tests.{ltb-true, ltb-false, eqb-true, eqb-false, eq-eqb, ne_eqb}
-use native.Mathlib.Decide.{ℕ_discrete}
-use Rattle.number.proofs.Bools.{clash, and_left, and_right}
+use borrow.Author.Tests.{ltb-true, eq-eqb, ne_eqb}
+use native.Mathlib.Decide.{dec_lt, ℕ_discrete}
+use Rattle.std.specs.Prelude.{Err}
 use Rattle.number.specs.Bytes.{open_byte, close_byte}
 use Rattle.number.specs.Codes.{not_of_the_form, out_of_range, too_many}
 use Rattle.number.specs.Numbers.{number_of, magnitude_of, unsigned, is_minus, signed, greatest, of_magnitude}
 use Rattle.text.specs.Tokens.{Token, opening, closing, number, tokens, tokens_at}
 use Rattle.list.specs.Written.{over}
-use Rattle.text.specs.Reading.{refused, room_of, behind, counted, inside, opened, read_of, values_of, value_then, read_into}
-use Rattle.text.specs.Steps.{blank}
-use Rattle.number.specs.declared.Number.{Number}
-use Rattle.number.specs.declared.Number.TheVariants.{Value, Refused}
-use Rattle.text.specs.declared.ReadAnswer.{ReadAnswer}
+use Rattle.text.specs.Reading.{accepted, refused, room_of, read_told, behind, counted, inside, opened, read_of, values_of, value_then, read_into}
+use Rattle.text.specs.Steps.{blank, Opened}
+use Rattle.number.specs.Numbers.{Number}
+use Rattle.number.specs.Numbers.{Value, Refused}
+use Rattle.text.specs.Reading.{ReadAnswer}
+use Rattle.text.specs.declared.ReadFault.{ReadFault}
+use Rattle.text.specs.declared.ReadFault.TheVariants.{NotOfTheForm, OutOfRange, TooMany}
 use Rattle.text.proofs.Lexing.{skip_end, skip_within}
 use Rattle.text.proofs.Items.{first_opens, first_closes, first_number}
 
@@ -31,7 +33,7 @@ pub refused_code : (p e : ℕ) (bs : List ℕ) (c q : ℕ) → number_of p e bs 
 refused_code p e bs c q h = by_magnitude (magnitude_of (unsigned bs)) h
   where
     by_range : (m : ℕ) (r : Bool) → cond r (Value (signed (is_minus bs) m) e) (Refused out_of_range p) ≡ Refused c q → 0 < c
-    by_range m true k = clash (cc)
+    by_range m true k = cc
     by_range m false k = let z : out_of_range ≡ c = cc in omega arith
 
     by_magnitude : (o : Option ℕ) → of_magnitude p e (is_minus bs) o ≡ Refused c q → 0 < c
@@ -96,45 +98,47 @@ read_fits t n = omega (arith, opened_fits (length t) (room_of n) (tokens 0 false
 -- ---- the opening bracket
 
 module _ (t : List ℕ) (q : ℕ) (at : q ≡ 0 + blank false t) where
-  pub whole_opened : (ltb q (length t) && eqb (get_or t q 0) open_byte) ≡ true → tokens 0 false t ≡ opening q ∷ tokens_at t (q + 1)
-  whole_opened e =
-      let a = ltb-true q (length t) (and_left (ltb q (length t)) (eqb (get_or t q 0) open_byte) e) in
-      let b = eqb-true (get_or t q 0) open_byte (and_right (ltb q (length t)) (eqb (get_or t q 0) open_byte) e) in
-      rw (add-one q) (first_opens t 0 q at a b)
-
-  pub whole_unopened : (n : ℕ) → (ltb q (length t) && eqb (get_or t q 0) open_byte) ≡ false → read_of t n ≡ refused not_of_the_form q
+  pub whole_unopened : (n : ℕ) → (q < length t → get_or t q 0 ≡ open_byte → ⊥) → read_of t n ≡ refused not_of_the_form q
   unfolding read_of
-  whole_unopened n e = by_end (ltb q (length t)) refl e
+  whole_unopened n o = by_end (dec_lt q (length t))
     where
-      by_close : q < length t → (get_or t q 0 ≡ open_byte → ⊥) → Dec (get_or t q 0 ≡ close_byte) → opened (length t) (room_of n) (tokens 0 false t) ≡ refused not_of_the_form q
-      by_close h o (yes c) = ap (opened (length t) (room_of n)) (first_closes t 0 q at h c)
-      by_close h o (no c) = ap (opened (length t) (room_of n)) (first_number t 0 q at h o c)
+      by_close : q < length t → Dec (get_or t q 0 ≡ close_byte) → opened (length t) (room_of n) (tokens 0 false t) ≡ refused not_of_the_form q
+      by_close h (yes c) = ap (opened (length t) (room_of n)) (first_closes t 0 q at h c)
+      by_close h (no c) = ap (opened (length t) (room_of n)) (first_number t 0 q at h (o h) c)
 
-      by_end : (b : Bool) → ltb q (length t) ≡ b → (b && eqb (get_or t q 0) open_byte) ≡ false → opened (length t) (room_of n) (tokens 0 false t) ≡ refused not_of_the_form q
-      by_end true h o = by_close (ltb-true q (length t) h) (eqb-false (get_or t q 0) open_byte o) (ℕ_discrete (get_or t q 0) close_byte)
-      by_end false h o =
-          let g : length t ≤ q = ltb-false q (length t) h in
+      by_end : Dec (q < length t) → opened (length t) (room_of n) (tokens 0 false t) ≡ refused not_of_the_form q
+      by_end (yes h) = by_close h (ℕ_discrete (get_or t q 0) close_byte)
+      by_end (no h) =
           let k : length t ≡ q = omega (arith, skip_within t 0 q at (omega arith)) in
-          ap (opened (length t) (room_of n)) (skip_end t 0 q at g) ∙ ap (refused not_of_the_form) k
+          ap (opened (length t) (room_of n)) (skip_end t 0 q at (omega arith)) ∙ ap (refused not_of_the_form) k
 
-  module _ (head : (ltb q (length t) && eqb (get_or t q 0) open_byte) ≡ true) where
-    pub read_inside : (n : ℕ) → read_of t n ≡ inside (length t) (room_of n) 0 (tokens_at t (q + 1))
-    unfolding read_of
-    read_inside n = ap (opened (length t) (room_of n)) (whole_opened head)
+  pub whole_opened : q < length t → get_or t q 0 ≡ open_byte → tokens 0 false t ≡ opening q ∷ tokens_at t (q + 1)
+  whole_opened h o = rw (add-one q) (first_opens t 0 q at h o)
 
-    pub read_entries : (l : List ℤ) → (read_of t (length l)).code ≡ 0
-        → over (take (read_of t (length l)).entries (values_of (tokens_at t (q + 1)))) l ≡ read_into t l
-    unfolding read_into
-    read_entries l z =
-        let r = inside (length t) (room_of (length l)) 0 (tokens_at t (q + 1)) in
-        let w = inside_counts (length t) (room_of (length l)) 0 (tokens_at t (q + 1)) (rw (read_inside (length l)) at z) in
-        rw (eq-eqb (read_of t (length l)).code 0 z, whole_opened head)
-        (ap (λ (vs : List ℤ). over vs l) (take_all r.entries (values_of (tokens_at t (q + 1))) (omega arith)))
+module _ (t : List ℕ) (i : ℕ) (head : Opened t i) where
+  pub read_inside : (n : ℕ) → read_of t n ≡ inside (length t) (room_of n) 0 (tokens_at t i)
+  unfolding read_of
+  read_inside n = ap (opened (length t) (room_of n)) head.1
 
+  -- an accepted text: its first values over the start of the list
+  pub read_entries : (l : List ℤ) (n : ℕ) → read_of t (length l) ≡ accepted n → over (take n (values_of (tokens_at t i))) l ≡ read_into t l
+  unfolding read_into
+  read_entries l n e =
+      let inner : inside (length t) (room_of (length l)) 0 (tokens_at t i) ≡ accepted n = sym (read_inside (length l)) ∙ e in
+      let w = inside_counts (length t) (room_of (length l)) 0 (tokens_at t i) (ap (λ (r : ReadAnswer). r.code) inner) in
+      let k = ap (λ (r : ReadAnswer). r.entries) inner in
+      rw (eq-eqb (read_of t (length l)).code 0 (ap (λ (r : ReadAnswer). r.code) e), head.1)
+      (ap (λ (vs : List ℤ). over vs l) (take_all n (values_of (tokens_at t i)) (omega arith)))
+
+-- a refused text leaves the list as it was
 pub into_refused : (t : List ℕ) (l : List ℤ) → ((read_of t (length l)).code ≡ 0 → ⊥) → read_into t l ≡ l
 unfolding read_into
 into_refused t l h = rw (ne_eqb (read_of t (length l)).code 0 h)
 
--- a text that is refused by 11 is not accepted
-pub refused_not : (t : List ℕ) (l : List ℤ) (p : ℕ) → read_of t (length l) ≡ refused not_of_the_form p → (read_of t (length l)).code ≡ 0 → ⊥
-refused_not t l p e z = omega (arith, ap (λ (r : ReadAnswer). r.code) e)
+pub into_faulty : (t : List ℕ) (l : List ℤ) (f : ReadFault) → read_of t (length l) ≡ read_told (Err f) → read_into t l ≡ l
+into_faulty t l f e = into_refused t l (λ z. refuses f (sym (ap (λ (r : ReadAnswer). r.code) e) ∙ z))
+  where
+    refuses : (f : ReadFault) → (read_told (Err f)).code ≡ 0 → ⊥
+    refuses (NotOfTheForm p) z = absurd (omega arith)
+    refuses (OutOfRange p) z = absurd (omega arith)
+    refuses (TooMany p) z = absurd (omega arith)

@@ -11,7 +11,7 @@ use Rattle.list.specs.Limits.{max_entries}
 use Rattle.number.specs.Codes.{too_long, no_room_code}
 use Rattle.text.specs.Writing.{written, refused_write, accepted_write, write_of, write_into}
 use Rattle.number.specs.Steps.{put}
-use Rattle.text.specs.declared.WriteAnswer.{WriteAnswer}
+use Rattle.text.specs.Writing.{WriteAnswer}
 
 module _ (l : List ℤ) (n : ℕ) where
   pub write_long : max_entries < length l → write_of l n ≡ refused_write too_long 0

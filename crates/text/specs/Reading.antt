@@ -1,7 +1,12 @@
 -- Reading a text into a lent list (document 01, "Text" and codes 11, 12, 13).
 --
+--   ReadAnswer         document 01's numbers for a reading: code, place and how many entries
 --   refused c p        the answer that refuses with code c at place p: everything else is 0
 --   accepted n         the answer that accepts n entries: code 0, place 0
+--   read_code f        the code of the fault f
+--   read_place f       its place
+--   read_told r        what `read` answers, in these numbers
+--   read_fault f       the fault of a text whose leftmost fault is the number's fault f
 --   room_of n          how many numbers a lent list of n entries takes
 --   behind n ks        the things ks behind the closing bracket, where n entries have been read: there must be none
 --   counted p b x r    the number x read at place p: its own refusal, 13 where b says that it has no room, else the answer r
@@ -12,21 +17,45 @@
 --   values_of ks        the values of the numbers that ks begins with
 --   entries_of ks      the entries of a text that is the things ks
 --   read_into t l      the lent list afterwards: the entries read in front of what stays, or all as it was
-use Rattle.std.specs.Prelude.{ℕ, suc, ◌+◌, min, List, [], ◌∷◌, Bool, false, cond, ℤ, length, eqb, ltb}
+use Rattle.std.specs.Prelude.{ℕ, suc, ◌+◌, min, List, [], ◌∷◌, Bool, false, cond, ℤ, length, eqb, ltb, Result, Ok, Err}
 use Rattle.list.specs.Limits.{max_entries}
 use Rattle.list.specs.Written.{over}
-use Rattle.number.specs.Codes.{not_of_the_form, too_many}
-use Rattle.number.specs.Numbers.{number_of, code_of, place_of}
+use Rattle.number.specs.Codes.{not_of_the_form, out_of_range, too_many}
+use Rattle.number.specs.Numbers.{Number, Value, Refused, number_of, code_of, place_of}
+use Rattle.number.specs.declared.NumberFault as number_fault
+use Rattle.number.specs.declared.NumberFault.TheVariants as number_faults
 use Rattle.text.specs.Tokens.{Token, opening, closing, number, start_of, tokens}
-use Rattle.number.specs.declared.Number.{Number}
-use Rattle.number.specs.declared.Number.TheVariants.{Value, Refused}
-use Rattle.text.specs.declared.ReadAnswer.{ReadAnswer}
+use Rattle.text.specs.declared.ReadFault.{ReadFault}
+use Rattle.text.specs.declared.ReadFault.TheVariants.{NotOfTheForm, OutOfRange, TooMany}
+
+pub record ReadAnswer : Type 0 where
+  pub code : ℕ
+  pub place : ℕ
+  pub entries : ℕ
 
 abbrev pub refused : ℕ → ℕ → ReadAnswer
 refused c p = record { code = c; place = p; entries = 0 }
 
 abbrev pub accepted : ℕ → ReadAnswer
 accepted n = record { code = 0; place = 0; entries = n }
+
+abbrev pub read_code : ReadFault → ℕ
+read_code (NotOfTheForm p) = not_of_the_form
+read_code (OutOfRange p) = out_of_range
+read_code (TooMany p) = too_many
+
+abbrev pub read_place : ReadFault → ℕ
+read_place (NotOfTheForm p) = p
+read_place (OutOfRange p) = p
+read_place (TooMany p) = p
+
+abbrev pub read_told : Result ℕ ReadFault → ReadAnswer
+read_told (Ok n) = accepted n
+read_told (Err f) = refused (read_code f) (read_place f)
+
+abbrev pub read_fault : number_fault.NumberFault → ReadFault
+read_fault (number_faults.NotOfTheForm p) = NotOfTheForm p
+read_fault (number_faults.OutOfRange p) = OutOfRange p
 
 abbrev pub room_of : ℕ → ℕ
 room_of n = min n max_entries

@@ -6,20 +6,30 @@
 --   item_text l        the first entry of l with what stands behind it
 --   entries_text l     the entries of l joined, and the closing bracket
 --   written l          the text of the list l
+--   WriteAnswer        document 01's numbers for a writing: code, place and the text's length
 --   refused_write c p  the answer that refuses with code c at place p
 --   accepted_write n   the answer that accepts, with a text of n bytes
+--   write_code f       the code of the fault f
+--   write_place f      its place: the length needed, or 0
+--   write_told r       what `write` answers, in these numbers
 --   write_of l n       the answer to the list l and a text buffer of n bytes
 --   write_into l t     the text buffer afterwards: the text in front of what stays, or all as it was
 --   Fits32 x           the entry x is from -2,147,483,648 to 2,147,483,647
 --   AllFit l           so is every entry of l
-use Rattle.std.specs.Prelude.{ℕ, suc, ◌≤◌, ◌<◌, List, [], ◌∷◌, ◌++◌, Bool, true, false, cond, ℤ, pos, negsuc, nat_abs, length, get_or, eqb, ltb}
+use Rattle.std.specs.Prelude.{ℕ, suc, ◌≤◌, ◌<◌, List, [], ◌∷◌, ◌++◌, Bool, true, false, cond, ℤ, pos, negsuc, nat_abs, length, get_or, eqb, ltb, Result, Ok, Err}
 use Rattle.list.specs.Limits.{max_entries}
 use Rattle.list.specs.Written.{over}
 use Rattle.number.specs.Codes.{too_long, no_room_code}
 use Rattle.number.specs.Bytes.{space, comma, open_byte, close_byte, minus_byte}
 use Rattle.number.specs.Numbers.{greatest}
 use Rattle.number.specs.Decimal.{decimal_text}
-use Rattle.text.specs.declared.WriteAnswer.{WriteAnswer}
+use Rattle.text.specs.declared.WriteFault.{WriteFault}
+use Rattle.text.specs.declared.WriteFault.TheVariants.{TooLong, NoRoom}
+
+pub record WriteAnswer : Type 0 where
+  pub code : ℕ
+  pub place : ℕ
+  pub length : ℕ
 
 abbrev pub is_negative : ℤ → Bool
 is_negative (pos m) = false
@@ -48,6 +58,18 @@ refused_write c p = record { code = c; place = p; length = 0 }
 
 abbrev pub accepted_write : ℕ → WriteAnswer
 accepted_write n = record { code = 0; place = 0; length = n }
+
+abbrev pub write_code : WriteFault → ℕ
+write_code TooLong = too_long
+write_code (NoRoom n) = no_room_code
+
+abbrev pub write_place : WriteFault → ℕ
+write_place TooLong = 0
+write_place (NoRoom n) = n
+
+abbrev pub write_told : Result ℕ WriteFault → WriteAnswer
+write_told (Ok n) = accepted_write n
+write_told (Err f) = refused_write (write_code f) (write_place f)
 
 unfoldable pub write_of : List ℤ → ℕ → WriteAnswer
 write_of l n =

@@ -6,69 +6,107 @@ mod reader;
 mod writer;
 
 ghost use Rattle.std.specs.Prelude.{◌≡◌, length};
-ghost use Rattle.text.specs.Reading.{read_of, read_into};
-ghost use Rattle.text.specs.Writing.{write_of, write_into};
+ghost use Rattle.text.specs.Reading.{read_of, read_into, read_code, read_place, read_told, read_fault};
+ghost use Rattle.text.specs.Writing.{write_of, write_into, write_code, write_place, write_told};
 
-use number::NOT_OF_THE_FORM;
+use list::{IndexList, Refusal};
+use number::NumberFault;
+use reader::Reader;
 
-const TOO_LONG: u32 = 1;
-
-const NO_ROOM: u32 = 15;
-
-// What reading a text answers. Accepted: code 0, place 0. Refused: code and place, no entries.
-#[derive(Clone, Copy)]
-pub struct ReadAnswer {
-    pub code: u32,
-    pub place: usize,
-    pub entries: usize,
+// Why a text is refused, with the place of its leftmost fault.
+// kept: variants of its own beside those of `NumberFault`, since a bracket or the text's end can be not of the form too.
+#[derive(Clone, Copy, Debug, PartialEq, Eq)]
+pub enum ReadFault {
+    NotOfTheForm(usize),
+    OutOfRange(usize),
+    TooMany(usize),
 }
 
-// What writing a list answers. Accepted: code 0, place 0 and the text's length. Refused: code and place.
-#[derive(Clone, Copy)]
-pub struct WriteAnswer {
-    pub code: u32,
-    pub place: usize,
-    pub length: usize,
+// Why a list is not written; a buffer with no room is told the length that the text needs.
+#[derive(Clone, Copy, Debug, PartialEq, Eq)]
+pub enum WriteFault {
+    TooLong,
+    NoRoom(usize),
+}
+
+impl Refusal for ReadFault {
+    ghost code_of = { read_code };
+
+    ghost place_of = { read_place };
+
+    fn code(self) -> u32 {
+        match self {
+            ReadFault::NotOfTheForm(_) => 11,
+            ReadFault::OutOfRange(_) => 12,
+            ReadFault::TooMany(_) => 13,
+        }
+    }
+
+    fn place(self) -> usize {
+        match self {
+            ReadFault::NotOfTheForm(place)
+            | ReadFault::OutOfRange(place)
+            | ReadFault::TooMany(place) => place,
+        }
+    }
+}
+
+impl From<NumberFault> for ReadFault {
+    ghost from_gives = { λ f e. e ≡ read_fault f };
+
+    fn from(fault: NumberFault) -> ReadFault {
+        match fault {
+            NumberFault::NotOfTheForm(place) => ReadFault::NotOfTheForm(place),
+            NumberFault::OutOfRange(place) => ReadFault::OutOfRange(place),
+        }
+    }
+}
+
+impl Refusal for WriteFault {
+    ghost code_of = { write_code };
+
+    ghost place_of = { write_place };
+
+    fn code(self) -> u32 {
+        match self {
+            WriteFault::TooLong => 1,
+            WriteFault::NoRoom(_) => 15,
+        }
+    }
+
+    fn place(self) -> usize {
+        match self {
+            WriteFault::TooLong => 0,
+            WriteFault::NoRoom(needed) => needed,
+        }
+    }
 }
 
 // Reads the text into the start of the list and answers how many entries it read.
 // Refused by 11, 12 or 13 at the leftmost fault; a refusal writes no entry, so a first pass only looks.
-pub fn read(text: &[u8], list: &mut [i32]) -> ReadAnswer
-    ensures value { result ≡ read_of text.now (length list.old) }
+pub fn read(text: &[u8], list: &mut [i32]) -> Result<usize, ReadFault>
+    ensures value { read_told result ≡ read_of text.now (length list.old) }
     ensures list_after { list.new ≡ read_into text.now list.old }
 {
-    let start = reader::skip(text, 0);
-    if !reader::opens_at(text, start) {
-        return reader::refused_read(NOT_OF_THE_FORM, start);
-    }
-    let at = start + 1;
-    let answer = reader::look(text, at, reader::room_of(list.len()));
-    let code = answer.code;
-    let entries = answer.entries;
-    if code == 0 {
-        reader::fill(text, at, list, entries);
-    }
-    answer
+    let reader = Reader::open(text)?;
+    let entries = reader.look(list.len().min(IndexList::MAX_ENTRIES))?;
+    reader.fill(&mut list[..entries]);
+    Ok(entries)
 }
 
 // Writes the list's text to the start of the buffer and answers its length.
 // Refused by 1 where the list is too long, and by 15 with the length needed where the buffer is shorter than the text.
-pub fn write(list: &[i32], text: &mut [u8]) -> WriteAnswer
-    ensures value { result ≡ write_of list.now (length text.old) }
+pub fn write(list: &[i32], text: &mut [u8]) -> Result<usize, WriteFault>
+    ensures value { write_told result ≡ write_of list.now (length text.old) }
     ensures text_after { text.new ≡ write_into list.now text.old }
 {
-    let most = list::IndexList::max_entries();
-    if most < list.len() {
-        return writer::refused_write(TOO_LONG, 0);
+    if IndexList::MAX_ENTRIES < list.len() {
+        return Err(WriteFault::TooLong);
     }
     let needed = writer::text_length(list);
     if text.len() < needed {
-        return writer::refused_write(NO_ROOM, needed);
+        return Err(WriteFault::NoRoom(needed));
     }
     writer::put_text(list, text);
-    WriteAnswer {
-        code: 0,
-        place: 0,
-        length: needed,
-    }
+    Ok(needed)
 }

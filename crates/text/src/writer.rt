@@ -1,107 +1,70 @@
 // The text writer's steps: how long the text is, and the text put into the buffer from its start.
-ghost use Rattle.std.specs.Prelude.{◌≡◌, ◌+◌, ◌≤◌, ◌<◌, pos, nat_abs, length, drop, get_or};
+ghost use Rattle.std.specs.Prelude.{◌≡◌, ◌+◌, ◌≤◌, ◌<◌, ◌∷◌, [], length};
 ghost use Rattle.list.specs.Limits.{max_entries};
-ghost use Rattle.text.specs.Writing.{is_negative, entry_text, item_text, written, refused_write};
+ghost use Rattle.text.specs.Writing.{entry_text, written};
+ghost use Rattle.text.specs.Steps.{entry_item, Puts};
 ghost use Rattle.number.specs.Steps.{put};
 
-use crate::WriteAnswer;
 use number::bytes::{CLOSE, MINUS, OPEN};
 use number::decimal::{digit_count, put_digits};
 
-pub fn refused_write(code: u32, place: usize) -> WriteAnswer
-    ensures { result ≡ refused_write code place }
+// How long an entry is in shortest decimal.
+fn entry_length(entry: i32) -> usize
+    ensures { (result ≡ length (entry_text entry)) × (result ≤ 21) }
 {
-    WriteAnswer {
-        code,
-        place,
-        length: 0,
-    }
+    digit_count(u64::from(entry.unsigned_abs())) + usize::from(entry.is_negative())
 }
 
-// Whether entry `i` is below 0.
-fn negative_at(list: &[i32], i: usize) -> bool
-    requires { i < length list.now }
-    ensures { result ≡ is_negative (get_or list.now i (pos 0)) }
-{
-    list[i] < 0
-}
-
-// Entry `i` without its sign.
-fn magnitude_at(list: &[i32], i: usize) -> u64
-    requires { i < length list.now }
-    ensures { result ≡ nat_abs (get_or list.now i (pos 0)) }
-{
-    let x = list[i] as i64;
-    if x < 0 { (0 - x) as u64 } else { x as u64 }
-}
-
-// How long entry `i` is in shortest decimal.
-fn entry_length(list: &[i32], i: usize) -> usize
-    requires { i < length list.now }
-    ensures { (result ≡ length (entry_text (get_or list.now i (pos 0)))) × (result ≤ 21) }
-{
-    let count = digit_count(magnitude_at(list, i));
-    if negative_at(list, i) {
-        count + 1
-    } else {
-        count
-    }
-}
-
-// How long entry `i` is with what stands behind it, up to the next entry.
-fn item_length(list: &[i32], i: usize) -> usize
-    requires { i < length list.now }
-    ensures { (result ≡ length (item_text (drop i list.now))) × (result ≤ 23) }
-{
-    let entry = entry_length(list, i);
-    if i + 1 < list.len() { entry + 2 } else { entry }
-}
-
-// How long the list's text is.
+// How long the list's text is: two bytes behind each entry, the comma and the space or, behind the last, for the brackets.
 pub fn text_length(list: &[i32]) -> usize
     requires { length list.now ≤ max_entries }
     ensures { result ≡ length (written list.now) }
 {
-    let mut total: usize = 2;
-    let mut i: usize = 0;
-    while i < list.len() {
-        total += item_length(list, i);
-        i += 1;
-    }
-    total
+    let entries: usize = list.iter().map(|entry| entry_length(*entry) + 2).sum();
+    entries.max(2)
 }
 
-// Puts entry `i` at `at` and answers the place behind it.
-fn put_entry(list: &[i32], i: usize, text: &mut [u8], at: usize) -> usize
-    requires { (i < length list.now) × (at + length (entry_text (get_or list.now i (pos 0))) ≤ length text.old) }
-    ensures value { result ≡ at + length (entry_text (get_or list.now i (pos 0))) }
-    ensures text_after { text.new ≡ put at (entry_text (get_or list.now i (pos 0))) text.old }
-{
-    let m = magnitude_at(list, i);
-    let count = digit_count(m);
-    if negative_at(list, i) {
-        text[at] = MINUS;
-        let digits = at + 1;
-        put_digits(text, digits, count, m);
-        return digits + count;
-    }
-    put_digits(text, at, count, m);
-    at + count
+// The buffer and the place that the writer has come to.
+#[derive(Drop)]
+struct Writer<'a> {
+    text: &'a mut [u8],
+    at: usize,
 }
 
-// Puts entry `i` at `at` with what stands behind it, and answers the place behind that.
-fn put_item(list: &[i32], i: usize, text: &mut [u8], at: usize) -> usize
-    requires { (i < length list.now) × (at + length (item_text (drop i list.now)) ≤ length text.old) }
-    ensures value { result ≡ at + length (item_text (drop i list.now)) }
-    ensures text_after { text.new ≡ put at (item_text (drop i list.now)) text.old }
-{
-    let next = put_entry(list, i, text, at);
-    if i + 1 < list.len() {
-        text[next] = b',';
-        text[next + 1] = b' ';
-        return next + 2;
+impl Writer<'_> {
+    // Puts a byte and comes to the place behind it, as the others do.
+    fn put_byte(&mut self, byte: u8)
+        requires { self.old.at < length self.old.text.now }
+        ensures { Puts self.old self.new (byte ∷ []) }
+    {
+        self.text[self.at] = byte;
+        self.at += 1;
     }
-    next
+
+    fn put_entry(&mut self, entry: i32)
+        requires { self.old.at + length (entry_text entry) ≤ length self.old.text.now }
+        ensures { Puts self.old self.new (entry_text entry) }
+    {
+        let m = u64::from(entry.unsigned_abs());
+        let count = digit_count(m);
+        if entry.is_negative() {
+            self.put_byte(MINUS);
+        }
+        put_digits(self.text, self.at, count, m);
+        self.at += count;
+    }
+
+    // Puts an entry, with a comma and a space where more follow.
+    fn put_item(&mut self, entry: i32, more: bool)
+        requires { self.old.at + length (entry_item entry more) ≤ length self.old.text.now }
+        ensures { Puts self.old self.new (entry_item entry more) }
+    {
+        self.put_entry(entry);
+        if more {
+            self.put_byte(b',');
+            self.put_byte(b' ');
+        }
+    }
 }
 
 // Puts the list's text at the start of the buffer.
@@ -109,12 +72,10 @@ pub fn put_text(list: &[i32], text: &mut [u8])
     requires { length (written list.now) ≤ length text.old }
     ensures { text.new ≡ put 0 (written list.now) text.old }
 {
-    text[0] = OPEN;
-    let mut at: usize = 1;
-    let mut i: usize = 0;
-    while i < list.len() {
-        at = put_item(list, i, text, at);
-        i += 1;
+    let mut writer = Writer { text, at: 0 };
+    writer.put_byte(OPEN);
+    for (i, entry) in list.iter().enumerate() {
+        writer.put_item(*entry, i + 1 < list.len());
     }
-    text[at] = CLOSE;
+    writer.put_byte(CLOSE);
 }

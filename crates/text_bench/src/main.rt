@@ -5,29 +5,26 @@
 ghost use Rattle.std.specs.Prelude.{◌+◌, ◌≤◌};
 ghost use Rattle.list.specs.Limits.{max_entries};
 
+use list::Refusal;
 use std::io;
 
 const LIMIT: usize = list::IndexList::MAX_ENTRIES;
 
-fn print_number(rt: &impl Print, n: u64, end: &[u8]) -> io::Result<()> {
-    print!(rt; "{n}")?;
-    rt.write_all(end)
-}
-
-fn print_answer(rt: &impl Print, code: u32, place: usize, count: usize) -> io::Result<()> {
-    print_number(rt, code as u64, b" ")?;
-    print_number(rt, place as u64, b" ")?;
-    print_number(rt, count as u64, b"\n")
+// The three numbers of an answer: code, place and count.
+fn print_answer(rt: &impl Print, answer: Result<usize, (u32, usize)>) -> io::Result<()> {
+    let (code, place, count) = match answer {
+        Ok(count) => (0, 0, count),
+        Err((code, place)) => (code, place, 0),
+    };
+    println!(rt; "{code} {place} {count}")
 }
 
 fn print_list(rt: &impl Print, list: &[i32]) -> io::Result<()> {
     let mut out = [0u8; 64];
-    let answer = text::write(list, &mut out);
-    let n = answer.length;
-    if n <= 64 {
+    if let Ok(n) = text::write(list, &mut out) {
         rt.write_all(&out[..n])?;
     }
-    rt.write_all(b" ")
+    print!(rt; " ")
 }
 
 // Reads a text into a list of four entries.
@@ -35,7 +32,7 @@ fn show(rt: &impl Print, source: &[u8]) -> io::Result<()> {
     let mut list = [7i32; 4];
     let answer = text::read(source, &mut list);
     print_list(rt, &list)?;
-    print_answer(rt, answer.code, answer.place, answer.entries)
+    print_answer(rt, answer.map_err(|fault| (fault.code(), fault.place())))
 }
 
 // Writes a list to a buffer of twelve bytes and prints them all: bytes past the text stay as they were.
@@ -43,8 +40,8 @@ fn show_written(rt: &impl Print, list: &[i32]) -> io::Result<()> {
     let mut out = [b'.'; 12];
     let answer = text::write(list, &mut out);
     rt.write_all(&out)?;
-    rt.write_all(b" ")?;
-    print_answer(rt, answer.code, answer.place, answer.length)
+    print!(rt; " ")?;
+    print_answer(rt, answer.map_err(|fault| (fault.code(), fault.place())))
 }
 
 // At the limit: a text of `n` numbers `0`, and a lent list with one entry more than permitted.
@@ -54,14 +51,13 @@ fn show_many(rt: &impl Print, n: usize) -> io::Result<()>
     let mut source = [b' '; 2 * LIMIT + 4];
     let mut list = [7i32; LIMIT + 1];
     source[0] = b'[';
-    let mut i: usize = 0;
-    while i < n {
+    // kept: by an index, since after `chunks_exact_mut` over a part of the array its length didn't prove
+    for i in 0..n {
         source[2 * i + 1] = b'0';
-        i += 1;
     }
     source[2 * LIMIT + 3] = b']';
     let answer = text::read(&source, &mut list);
-    print_answer(rt, answer.code, answer.place, answer.entries)
+    print_answer(rt, answer.map_err(|fault| (fault.code(), fault.place())))
 }
 
 // A list of one entry more than permitted is refused by 1.
@@ -69,7 +65,7 @@ fn show_too_long(rt: &impl Print) -> io::Result<()> {
     let list = [0i32; LIMIT + 1];
     let mut out = [b'.'; 12];
     let answer = text::write(&list, &mut out);
-    print_answer(rt, answer.code, answer.place, answer.length)
+    print_answer(rt, answer.map_err(|fault| (fault.code(), fault.place())))
 }
 
 fn values(rt: &impl Print) -> io::Result<()> {

@@ -1,11 +1,7 @@
--- `write_words` meets its contract: in each block the words written and those of the faces left make up the words of the list's uses.
-use Prim.Native.Nat.{◌-◌}
-use lib.ListN.{length}
+-- `write_words` meets its contract: the words written and those of the faces left make up the words of the list's uses.
+use Rattle.list.specs.Cursor.{faces_left}
 use Rattle.edges.proofs.Walk.{Wording}
 use Rattle.edges.proofs.write_words.Given as goal
 
-abbrev pub invariant-loop-start : goal.invariant-loop-start
-invariant-loop-start l = Wording l.list l.c l.cursor.at l.at l.initial.work l.work
-
-abbrev pub decreases-loop-start : goal.decreases-loop-start
-decreases-loop-start l = length l.list - l.cursor.at
+abbrev pub invariant-loop-face : goal.invariant-loop-face
+invariant-loop-face l = Wording l.list l.at (faces_left l.face-iterator) l.keys l.words

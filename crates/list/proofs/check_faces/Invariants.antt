@@ -1,12 +1,10 @@
 -- `check_faces` meets its contract: the faces passed are sound, so the answer is the one that the faces left lead to.
-use Prim.Native.Nat.{◌-◌}
 use mathlib.Core.Path.{◌≡◌}
-use lib.ListN.{length}
+use lib.ListN.{replicate}
+use Rattle.list.specs.Cursor.{faces_left}
 use Rattle.list.proofs.Checking.{Checking}
 use Rattle.list.proofs.check_faces.Given as goal
 
-abbrev pub invariant-loop-start : goal.invariant-loop-start
-invariant-loop-start l = Checking l.list l.n l.cursor.at l.count l.corners × (l.flags ≡ l.initial.flags)
-
-abbrev pub decreases-loop-start : goal.decreases-loop-start
-decreases-loop-start l = length l.list - l.cursor.at
+abbrev pub invariant-loop-face : goal.invariant-loop-face
+invariant-loop-face g l =
+    Checking l.list l.n l.faces l.corners (faces_left l.face-iterator) × (l.flags ≡ replicate g.row.MOST 0)

@@ -3,7 +3,7 @@ use Rattle.program.proofs.Answering.{within}
 use Rattle.manifold.proofs.main.Goals as goal
 
 pub slice_bounds-bytes-end : goal.slice_bounds-bytes-end
-slice_bounds-bytes-end c = (within _ c.respond-response.result c.respond-response.ensures).0
+slice_bounds-bytes-end c = (within _ c.respond-length.result c.respond-length.ensures).0
 
 pub slice_bounds-write_all-end : goal.slice_bounds-write_all-end
-slice_bounds-write_all-end c = (within _ c.respond-response.result c.respond-response.ensures).1
+slice_bounds-write_all-end c = (within _ c.respond-length.result c.respond-length.ensures).1

@@ -1,12 +1,6 @@
 -- `fill_list` meets its contract: the entries written and the rest refilled always make up the whole list refilled.
-use Prim.Native.Nat.{◌-◌, ◌≤◌}
-use mathlib.Core.Path.{◌≡◌}
-use lib.ListN.{length}
 use Rattle.renumber.proofs.Walk.{ListLoop}
 use Rattle.renumber.proofs.fill_list.Given as goal
 
 abbrev pub invariant-loop-i : goal.invariant-loop-i
-invariant-loop-i l = (l.i ≤ length l.list) × (l.i-end ≡ length l.list) × ListLoop l.list l.w l.initial.new_list l.new_list l.e l.i
-
-abbrev pub decreases-loop-i : goal.decreases-loop-i
-decreases-loop-i l = l.i-end - l.i
+invariant-loop-i l = ListLoop l.list l.w l.initial.new_list l.new_list l.e l.i

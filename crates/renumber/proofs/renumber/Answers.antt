@@ -1,18 +1,10 @@
 -- `renumber` meets its contract: the numbers are the first block alone, and the vertices of the roots are the map.
-use mathlib.Core.Path.{sym}
 use native.Mathlib.Omega.{arith}
 use Prim.Native.Nat.{◌≤◌}
 use lib.ListN.{length}
 use lib.Seq.{length-take-le}
 use Rattle.renumber.proofs.Numbering.{number_low, renumbered}
 use Rattle.renumber.proofs.renumber.Goals as goal
-
-pub number-vertices-requires : goal.number-vertices-requires
-number-vertices-requires c = (c.requires.0.words, c.requires.2)
-
-pub slice_bounds-fill_list-end-2 : goal.slice_bounds-fill_list-end-2
-slice_bounds-fill_list-end-2 c =
-    sym (length-take-le c.args.c c.number-vertices.new.w (omega (arith, c.number-vertices.auto.w, c.requires.0.words.table.long)))
 
 pub fill_list-requires : goal.fill_list-requires
 fill_list-requires c =

@@ -1,42 +1,34 @@
-use Prim.Native.Nat.{ℕ, ◌-◌}
-use mathlib.Core.Path.{◌≡◌, sym, ◌∙◌, ap}
-use mathlib.Core.List.{List}
-use native.Mathlib.Omega.{arith}
-use lib.ListN.{length, get_or, replicate, length-replicate}
-use Rattle.list.specs.Faces.{vertices}
-use Rattle.list.specs.Flags.{Clear}
-use Rattle.list.proofs.Repeats.{marked_clear, unmark_room, unmark_turn, unmark_done, vertex_of}
+use Prim.Native.Nat.{ℕ, ◌+◌, ◌<◌}
+use mathlib.Core.Path.{◌≡◌, ◌∙◌, ap, subst}
+use mathlib.Core.List.{List, [], ◌∷◌}
+use native.Mathlib.Numerals.{add-one}
+use lib.IntN.{ℤ, pos}
+use lib.ListN.{get_or, drop, length, replicate, drop_of_length-le}
+use lib.Seq.{drop-cons}
+use Rattle.std.proofs.Common.{rules}
+use Rattle.list.specs.Faces.{vertices, num}
+use Rattle.list.proofs.Signs.{passed_on}
+use Rattle.list.specs.Flags.{SetWithin}
+use Rattle.list.proofs.Repeats.{clear_first, clear_last, vertex_of, vertices_long}
 use Rattle.list.proofs.rules.unmark.Goals as goal
 
-pub loop-j-init : goal.loop-j-init
-loop-j-init c = (omega arith, c.requires.flags)
+-- the entry at hand is the first of the vertices that are left
+first_left : (l : List ℤ) (fs : List ℕ) (i v : ℕ) → i < length l → v ≡ num (get_or l i (pos 0)) → SetWithin (drop i (vertices l)) fs → SetWithin (v ∷ drop (i + 1) (vertices l)) fs
+first_left l fs i v h e w =
+    let inside : i < length (vertices l) = rw vertices_long h in
+    rw (e, ← (vertex_of l i), add-one) (rw (drop-cons (vertices l) i 0 inside) at w)
 
-pub bounds-flags-v : goal.bounds-flags-v
-bounds-flags-v c =
-    let vs : List ℕ = vertices c.args.face.now in
-    let zs : List ℕ = replicate (length c.args.flags.now) 0 in
-    let flags : List ℕ = c.loop-j.flags in
-    let clear : Clear vs zs = marked_clear vs c.args.flags.now c.args.r c.requires in
-    let j : ℕ = c.loop-j.j in
-    let vertex : c.vertex_at-v.result ≡ get_or vs (j - 1) 0 = c.vertex_at-v.ensures ∙ sym (vertex_of c.args.face.now (j - 1)) in
-    unmark_room (vs) (zs) (flags) (clear) (j) c.vertex_at-v.result c.loop-j-test.true (omega arith) (vertex) c.loop-j.invariant.1
+pub bounds-flags-vertex : goal.bounds-flags-vertex
+bounds-flags-vertex c =
+    (first_left c.args.part.now c.loop-entry.flags c.loop-entry.entry-index c.vertex.result c.loop-entry-test.true (passed_on c.args.part.now c.loop-entry.entry-index c.vertex.result (search rules) c.vertex.ensures) c.loop-entry.invariant).room 0 (search rules)
 
-pub loop-j-preserved : goal.loop-j-preserved
-loop-j-preserved c =
-    let vs : List ℕ = vertices c.args.face.now in
-    let zs : List ℕ = replicate (length c.args.flags.now) 0 in
-    let flags : List ℕ = c.loop-j.flags in
-    let clear : Clear vs zs = marked_clear vs c.args.flags.now c.args.r c.requires in
-    let j : ℕ = c.loop-j.j in
-    let vertex : c.vertex_at-v.result ≡ get_or vs (j - 1) 0 = c.vertex_at-v.ensures ∙ sym (vertex_of c.args.face.now (j - 1)) in
-    (omega arith, unmark_turn (vs) (zs) (flags) (clear) (j) c.vertex_at-v.result c.loop-j-test.true (omega arith) (vertex) c.loop-j.invariant.1 (omega arith))
-
-pub shape_of-flags : goal.shape_of-flags
-shape_of-flags c =
-    let cleared : c.loop-j.flags ≡ replicate (length c.args.flags.now) 0 = unmark_done (vertices c.args.face.now) (replicate (length c.args.flags.now) 0) c.loop-j.flags c.loop-j.j c.loop-j-test.false c.loop-j.invariant.1 in
-    ap length (cleared) ∙ length-replicate (length c.args.flags.now) 0
+pub loop-entry-preserved : goal.loop-entry-preserved
+loop-entry-preserved c =
+    clear_first c.vertex.result _ c.loop-entry.flags (first_left c.args.part.now c.loop-entry.flags c.loop-entry.entry-index c.vertex.result c.loop-entry-test.true (passed_on c.args.part.now c.loop-entry.entry-index c.vertex.result (search rules) c.vertex.ensures) c.loop-entry.invariant)
 
 pub returns : goal.returns
 returns c =
-    let cleared : c.loop-j.flags ≡ replicate (length c.args.flags.now) 0 = unmark_done (vertices c.args.face.now) (replicate (length c.args.flags.now) 0) c.loop-j.flags c.loop-j.j c.loop-j-test.false c.loop-j.invariant.1 in
-    cleared
+    let i : ℕ = c.loop-entry.entry-index in
+    let vs : List ℕ = vertices c.args.part.now in
+    let none : drop i vs ≡ [] = drop_of_length-le vs (rw vertices_long c.loop-entry-test.false) in
+    clear_last c.loop-entry.flags (subst (λ (ws : List ℕ). SetWithin ws c.loop-entry.flags) none c.loop-entry.invariant) ∙ ap (λ k. replicate k 0) c.loop-entry.auto.flags

@@ -1,19 +1,20 @@
 -- `matching::match_corners` meets its contract: with 0 at every vertex none has met.
-use native.Mathlib.Omega.{arith}
-use Rattle.list.specs.Limits.{max_vertices}
-use Rattle.mates.proofs.Meeting.{none_met}
+use Rattle.std.proofs.Common.{◌∙◌, sym, arith}
+use Rattle.mates.proofs.Meeting.{none_met_yet, right_joined}
 use Rattle.mates.proofs.matching.match_corners.Goals as goal
 
 pub meet_all-requires : goal.meet_all-requires
-meet_all-requires c = none_met c.args.c c.args.n 4096 c.args.work.now c.requires.0 c.requires.2 (omega arith)
+meet_all-requires c =
+    (omega arith, none_met_yet c.split_at_mut-keys.ensures.front c.split_at_mut-keys.ensures.back c.split_at_mut-order.ensures.front c.requires.0 c.requires.2 c.if-n-le-FEW_VERTICES.true, c.split_at_mut-mates.ensures.front_len ∙ sym c.split_at_mut-keys.ensures.front_len)
 
-pub returns-then-n-le-FEW_VERTICES : goal.returns-then-n-le-FEW_VERTICES
-returns-then-n-le-FEW_VERTICES c =
-    record { right = c.meet_all.ensures.right; counted = c.meet_all.ensures.counted; kept = c.meet_all.ensures.kept }
+pub returns-then-n-le-FEW_VERTICES-clause-right : goal.returns-then-n-le-FEW_VERTICES-clause-right
+returns-then-n-le-FEW_VERTICES-clause-right c =
+    right_joined c.split_at_mut-keys.ensures.front c.split_at_mut-keys.ensures.back c.split_at_mut-order.ensures.front c.requires.0 c.meet_all.new.mates _ (c.meet_all.auto.mates ∙ c.split_at_mut-mates.ensures.front_len) c.meet_all.ensures.right
 
-pub meet_all-requires-2 : goal.meet_all-requires-2
-meet_all-requires-2 c = none_met c.args.c c.args.n max_vertices c.args.work.now c.requires.0 c.requires.2 c.requires.1
+pub meet_all-requires-else-n-le-FEW_VERTICES : goal.meet_all-requires-else-n-le-FEW_VERTICES
+meet_all-requires-else-n-le-FEW_VERTICES c =
+    (omega arith, none_met_yet c.split_at_mut-keys.ensures.front c.split_at_mut-keys.ensures.back c.split_at_mut-order.ensures.front c.requires.0 c.requires.2 c.requires.1, c.split_at_mut-mates.ensures.front_len ∙ sym c.split_at_mut-keys.ensures.front_len)
 
-pub returns : goal.returns
-returns c =
-    record { right = c.meet_all-2.ensures.right; counted = c.meet_all-2.ensures.counted; kept = c.meet_all-2.ensures.kept }
+pub returns-else-n-le-FEW_VERTICES-clause-right : goal.returns-else-n-le-FEW_VERTICES-clause-right
+returns-else-n-le-FEW_VERTICES-clause-right c =
+    right_joined c.split_at_mut-keys.ensures.front c.split_at_mut-keys.ensures.back c.split_at_mut-order.ensures.front c.requires.0 c.meet_all-else-n-le-FEW_VERTICES.new.mates _ (c.meet_all-else-n-le-FEW_VERTICES.auto.mates ∙ c.split_at_mut-mates.ensures.front_len) c.meet_all-else-n-le-FEW_VERTICES.ensures.right

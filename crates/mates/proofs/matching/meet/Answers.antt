@@ -1,124 +1,41 @@
--- `matching::meet` meets its contract: the word of the last corner with the key tells how many came before, and each of them gets
--- its word among one more.
-use Prim.Native.Nat.{◌+◌, ◌*◌, ◌<◌}
-use native.Mathlib.Omega.{arith}
-use borrow.Author.Rules.{scaled_Fits}
-use lib.ListN.{get_or, set, length-set}
-use Rattle.mates.proofs.Meeting.{place_in, Turned, found_in, pair_turn, join_turn, crowd_turn}
+-- `matching::meet` meets its contract: the corner finds the last one before it that has its key, and the words of those with it become
+-- what they are among one corner more.
+use Rattle.std.proofs.Common.{arith, length-set}
+use Rattle.mates.proofs.Meeting.{met_turn, found_in, pair_turn, join_turn, crowd_in, crowd_turn}
 use Rattle.mates.proofs.matching.meet.Goals as goal
 
-pub overflow_cast-own : goal.overflow_cast-own
-overflow_cast-own c =
-    let corner : get_or c.args.work.now (c.args.c + c.args.i) 0 < c.args.c = place_in c.args.c c.args.i c.args.work.now c.args.last.now c.requires.0 c.requires.1 in
-    omega (arith, corner)
+pub bounds-mates-a : goal.bounds-mates-a
+bounds-mates-a c = simp length-set (omega (arith, c.requires.1.room, found_in _ _ _ _ c.requires.0 c.requires.2 _ c.requires.1 _ c.last_before-a.ensures.last))
 
-pub overflow_add-own : goal.overflow_add-own
-overflow_add-own c =
-    let corner : get_or c.args.work.now (c.args.c + c.args.i) 0 < c.args.c = place_in c.args.c c.args.i c.args.work.now c.args.last.now c.requires.0 c.requires.1 in
-    omega (arith, corner)
+pub returns-then-b-a-clause-met : goal.returns-then-b-a-clause-met
+returns-then-b-a-clause-met c = rw c.last_before-a.ensures.noted (met_turn _ _ _ _ c.requires.0 c.requires.2)
 
-pub overflow_cast-other : goal.overflow_cast-other
-overflow_cast-other c =
-    let other : c.last_before-a.result < c.args.c = found_in c.args.c c.args.i c.args.work.now c.args.last.now c.requires.0 c.requires.1 c.last_before-a.result c.last_before-a.new.last c.last_before-a.ensures.last c.last_before-a.ensures.noted in
-    omega (arith, other)
+pub returns-then-b-a-clause-words : goal.returns-then-b-a-clause-words
+returns-then-b-a-clause-words c = (pair_turn _ _ _ _ c.requires.0 c.requires.2 _ c.requires.1 _ c.last_before-a.ensures.last c.if-b-a.true).words
 
-pub overflow_add-other : goal.overflow_add-other
-overflow_add-other c =
-    let other : c.last_before-a.result < c.args.c = found_in c.args.c c.args.i c.args.work.now c.args.last.now c.requires.0 c.requires.1 c.last_before-a.result c.last_before-a.new.last c.last_before-a.ensures.last c.last_before-a.ensures.noted in
-    omega (arith, other)
+pub returns-then-b-a-clause-counted : goal.returns-then-b-a-clause-counted
+returns-then-b-a-clause-counted c = (pair_turn _ _ _ _ c.requires.0 c.requires.2 _ c.requires.1 _ c.last_before-a.ensures.last c.if-b-a.true).counted
 
-pub offset_bounds-work-own : goal.offset_bounds-work-own
-offset_bounds-work-own c =
-    let corner : get_or c.args.work.now (c.args.c + c.args.i) 0 < c.args.c = place_in c.args.c c.args.i c.args.work.now c.args.last.now c.requires.0 c.requires.1 in
-    scaled_Fits _ _ _ (omega (arith, corner, c.requires.0.grouped.long)) c.well_formed.0.1
+pub returns-then-b-many-clause-met : goal.returns-then-b-many-clause-met
+returns-then-b-many-clause-met c = rw c.last_before-a.ensures.noted (met_turn _ _ _ _ c.requires.0 c.requires.2)
 
-pub bounds-work-own : goal.bounds-work-own
-bounds-work-own c =
-    let corner : get_or c.args.work.now (c.args.c + c.args.i) 0 < c.args.c = place_in c.args.c c.args.i c.args.work.now c.args.last.now c.requires.0 c.requires.1 in
-    omega (arith, corner, c.requires.0.grouped.long)
+pub returns-then-b-many-clause-words : goal.returns-then-b-many-clause-words
+returns-then-b-many-clause-words c = (join_turn _ _ _ _ c.requires.0 c.requires.2 _ c.requires.1 _ c.last_before-a.ensures.last c.if-b-a.false c.if-b-many.true).words
 
-pub offset_bounds-work-other : goal.offset_bounds-work-other
-offset_bounds-work-other c =
-    let other : c.last_before-a.result < c.args.c = found_in c.args.c c.args.i c.args.work.now c.args.last.now c.requires.0 c.requires.1 c.last_before-a.result c.last_before-a.new.last c.last_before-a.ensures.last c.last_before-a.ensures.noted in
-    scaled_Fits _ _ _ (omega (arith, other, c.requires.0.grouped.long)) c.well_formed.0.1
+pub returns-then-b-many-clause-counted : goal.returns-then-b-many-clause-counted
+returns-then-b-many-clause-counted c = (join_turn _ _ _ _ c.requires.0 c.requires.2 _ c.requires.1 _ c.last_before-a.ensures.last c.if-b-a.false c.if-b-many.true).counted
 
-pub bounds-work-other : goal.bounds-work-other
-bounds-work-other c =
-    let other : c.last_before-a.result < c.args.c = found_in c.args.c c.args.i c.args.work.now c.args.last.now c.requires.0 c.requires.1 c.last_before-a.result c.last_before-a.new.last c.last_before-a.ensures.last c.last_before-a.ensures.noted in
-    simp length-set (omega (arith, other, c.requires.0.grouped.long))
+pub bounds-mates-a-2 : goal.bounds-mates-a-2
+bounds-mates-a-2 c = simp length-set (omega (arith, c.requires.1.room, found_in _ _ _ _ c.requires.0 c.requires.2 _ c.requires.1 _ c.last_before-a.ensures.last))
 
-pub offset_bounds-work-own-then-b-a : goal.offset_bounds-work-own-then-b-a
-offset_bounds-work-own-then-b-a c =
-    let corner : get_or c.args.work.now (c.args.c + c.args.i) 0 < c.args.c = place_in c.args.c c.args.i c.args.work.now c.args.last.now c.requires.0 c.requires.1 in
-    scaled_Fits _ _ _ (omega (arith, corner, c.requires.0.grouped.long)) c.well_formed.0.1
+pub bounds-mates-b : goal.bounds-mates-b
+bounds-mates-b c = simp length-set (omega (arith, c.requires.1.room, crowd_in _ _ _ _ c.requires.0 c.requires.2 _ c.requires.1 _ c.last_before-a.ensures.last c.if-b-a.false c.if-b-many.false))
 
-pub bounds-work-own-then-b-a : goal.bounds-work-own-then-b-a
-bounds-work-own-then-b-a c =
-    let corner : get_or c.args.work.now (c.args.c + c.args.i) 0 < c.args.c = place_in c.args.c c.args.i c.args.work.now c.args.last.now c.requires.0 c.requires.1 in
-    simp length-set (omega (arith, corner, c.requires.0.grouped.long))
+pub returns-clause-met : goal.returns-clause-met
+returns-clause-met c = rw c.last_before-a.ensures.noted (met_turn _ _ _ _ c.requires.0 c.requires.2)
 
-pub offset_bounds-work-other-then-b-a : goal.offset_bounds-work-other-then-b-a
-offset_bounds-work-other-then-b-a c =
-    let other : c.last_before-a.result < c.args.c = found_in c.args.c c.args.i c.args.work.now c.args.last.now c.requires.0 c.requires.1 c.last_before-a.result c.last_before-a.new.last c.last_before-a.ensures.last c.last_before-a.ensures.noted in
-    scaled_Fits _ _ _ (omega (arith, other, c.requires.0.grouped.long)) c.well_formed.0.1
+pub returns-clause-words : goal.returns-clause-words
+returns-clause-words c = (crowd_turn _ _ _ _ c.requires.0 c.requires.2 _ c.requires.1 _ c.last_before-a.ensures.last c.if-b-a.false c.if-b-many.false).words
 
-pub bounds-work-other-then-b-a : goal.bounds-work-other-then-b-a
-bounds-work-other-then-b-a c =
-    let other : c.last_before-a.result < c.args.c = found_in c.args.c c.args.i c.args.work.now c.args.last.now c.requires.0 c.requires.1 c.last_before-a.result c.last_before-a.new.last c.last_before-a.ensures.last c.last_before-a.ensures.noted in
-    simp length-set (omega (arith, other, c.requires.0.grouped.long))
-
-pub returns-then-b-a : goal.returns-then-b-a
-returns-then-b-a c =
-    let t = pair_turn c.args.c c.args.i c.args.work.now c.args.last.now c.requires.0 c.requires.1 c.last_before-a.result c.last_before-a.new.last c.last_before-a.ensures.last c.last_before-a.ensures.noted c.if-b-a.true in
-    record { met = t.met; kept = t.kept; counted = t.counted }
-
-pub offset_bounds-work-own-2 : goal.offset_bounds-work-own-2
-offset_bounds-work-own-2 c =
-    let corner : get_or c.args.work.now (c.args.c + c.args.i) 0 < c.args.c = place_in c.args.c c.args.i c.args.work.now c.args.last.now c.requires.0 c.requires.1 in
-    scaled_Fits _ _ _ (omega (arith, corner, c.requires.0.grouped.long)) c.well_formed.0.1
-
-pub bounds-work-own-2 : goal.bounds-work-own-2
-bounds-work-own-2 c =
-    let corner : get_or c.args.work.now (c.args.c + c.args.i) 0 < c.args.c = place_in c.args.c c.args.i c.args.work.now c.args.last.now c.requires.0 c.requires.1 in
-    simp length-set (omega (arith, corner, c.requires.0.grouped.long))
-
-pub returns-then-b-c : goal.returns-then-b-c
-returns-then-b-c c =
-    let t = join_turn c.args.c c.args.i c.args.work.now c.args.last.now c.requires.0 c.requires.1 c.last_before-a.result c.last_before-a.new.last c.last_before-a.ensures.last c.last_before-a.ensures.noted c.if-b-a.false c.if-b-c.true in
-    record { met = t.met; kept = t.kept; counted = t.counted }
-
-pub offset_bounds-work-other-2 : goal.offset_bounds-work-other-2
-offset_bounds-work-other-2 c =
-    let other : c.last_before-a.result < c.args.c = found_in c.args.c c.args.i c.args.work.now c.args.last.now c.requires.0 c.requires.1 c.last_before-a.result c.last_before-a.new.last c.last_before-a.ensures.last c.last_before-a.ensures.noted in
-    scaled_Fits _ _ _ (omega (arith, other, c.requires.0.grouped.long)) c.well_formed.0.1
-
-pub bounds-work-other-2 : goal.bounds-work-other-2
-bounds-work-other-2 c =
-    let other : c.last_before-a.result < c.args.c = found_in c.args.c c.args.i c.args.work.now c.args.last.now c.requires.0 c.requires.1 c.last_before-a.result c.last_before-a.new.last c.last_before-a.ensures.last c.last_before-a.ensures.noted in
-    simp length-set (omega (arith, other, c.requires.0.grouped.long))
-
-pub overflow_cast-work-4 : goal.overflow_cast-work-4
-overflow_cast-work-4 c =
-    let crowd : let v = set c.args.work.now (2 * c.args.c + get_or c.args.work.now (c.args.c + c.args.i) 0) (get_or c.args.work.now (c.args.c + c.args.i) 0) in (get_or v (2 * c.args.c + c.last_before-a.result) 0 < c.args.c) × Turned c.args.c c.args.i c.args.work.now (set (set (set v (2 * c.args.c + get_or c.args.work.now (c.args.c + c.args.i) 0) c.args.c) (2 * c.args.c + c.last_before-a.result) c.args.c) (2 * c.args.c + get_or v (2 * c.args.c + c.last_before-a.result) 0) c.args.c) c.last_before-a.new.last 1 = crowd_turn c.args.c c.args.i c.args.work.now c.args.last.now c.requires.0 c.requires.1 c.last_before-a.result c.last_before-a.new.last c.last_before-a.ensures.last c.last_before-a.ensures.noted c.if-b-a.false c.if-b-c.false in
-    omega (arith, crowd.0)
-
-pub overflow_add-work : goal.overflow_add-work
-overflow_add-work c =
-    let crowd : let v = set c.args.work.now (2 * c.args.c + get_or c.args.work.now (c.args.c + c.args.i) 0) (get_or c.args.work.now (c.args.c + c.args.i) 0) in (get_or v (2 * c.args.c + c.last_before-a.result) 0 < c.args.c) × Turned c.args.c c.args.i c.args.work.now (set (set (set v (2 * c.args.c + get_or c.args.work.now (c.args.c + c.args.i) 0) c.args.c) (2 * c.args.c + c.last_before-a.result) c.args.c) (2 * c.args.c + get_or v (2 * c.args.c + c.last_before-a.result) 0) c.args.c) c.last_before-a.new.last 1 = crowd_turn c.args.c c.args.i c.args.work.now c.args.last.now c.requires.0 c.requires.1 c.last_before-a.result c.last_before-a.new.last c.last_before-a.ensures.last c.last_before-a.ensures.noted c.if-b-a.false c.if-b-c.false in
-    omega (arith, crowd.0)
-
-pub offset_bounds-work-mates : goal.offset_bounds-work-mates
-offset_bounds-work-mates c =
-    let crowd : let v = set c.args.work.now (2 * c.args.c + get_or c.args.work.now (c.args.c + c.args.i) 0) (get_or c.args.work.now (c.args.c + c.args.i) 0) in (get_or v (2 * c.args.c + c.last_before-a.result) 0 < c.args.c) × Turned c.args.c c.args.i c.args.work.now (set (set (set v (2 * c.args.c + get_or c.args.work.now (c.args.c + c.args.i) 0) c.args.c) (2 * c.args.c + c.last_before-a.result) c.args.c) (2 * c.args.c + get_or v (2 * c.args.c + c.last_before-a.result) 0) c.args.c) c.last_before-a.new.last 1 = crowd_turn c.args.c c.args.i c.args.work.now c.args.last.now c.requires.0 c.requires.1 c.last_before-a.result c.last_before-a.new.last c.last_before-a.ensures.last c.last_before-a.ensures.noted c.if-b-a.false c.if-b-c.false in
-    scaled_Fits _ _ _ (omega (arith, crowd.0, c.requires.0.grouped.long)) c.well_formed.0.1
-
-pub bounds-work-mates : goal.bounds-work-mates
-bounds-work-mates c =
-    let crowd : let v = set c.args.work.now (2 * c.args.c + get_or c.args.work.now (c.args.c + c.args.i) 0) (get_or c.args.work.now (c.args.c + c.args.i) 0) in (get_or v (2 * c.args.c + c.last_before-a.result) 0 < c.args.c) × Turned c.args.c c.args.i c.args.work.now (set (set (set v (2 * c.args.c + get_or c.args.work.now (c.args.c + c.args.i) 0) c.args.c) (2 * c.args.c + c.last_before-a.result) c.args.c) (2 * c.args.c + get_or v (2 * c.args.c + c.last_before-a.result) 0) c.args.c) c.last_before-a.new.last 1 = crowd_turn c.args.c c.args.i c.args.work.now c.args.last.now c.requires.0 c.requires.1 c.last_before-a.result c.last_before-a.new.last c.last_before-a.ensures.last c.last_before-a.ensures.noted c.if-b-a.false c.if-b-c.false in
-    simp length-set (omega (arith, crowd.0, c.requires.0.grouped.long))
-
-pub returns : goal.returns
-returns c =
-    let crowd : let v = set c.args.work.now (2 * c.args.c + get_or c.args.work.now (c.args.c + c.args.i) 0) (get_or c.args.work.now (c.args.c + c.args.i) 0) in (get_or v (2 * c.args.c + c.last_before-a.result) 0 < c.args.c) × Turned c.args.c c.args.i c.args.work.now (set (set (set v (2 * c.args.c + get_or c.args.work.now (c.args.c + c.args.i) 0) c.args.c) (2 * c.args.c + c.last_before-a.result) c.args.c) (2 * c.args.c + get_or v (2 * c.args.c + c.last_before-a.result) 0) c.args.c) c.last_before-a.new.last 1 = crowd_turn c.args.c c.args.i c.args.work.now c.args.last.now c.requires.0 c.requires.1 c.last_before-a.result c.last_before-a.new.last c.last_before-a.ensures.last c.last_before-a.ensures.noted c.if-b-a.false c.if-b-c.false in
-    let t = crowd.1 in
-    record { met = t.met; kept = t.kept; counted = t.counted }
+pub returns-clause-counted : goal.returns-clause-counted
+returns-clause-counted c = (crowd_turn _ _ _ _ c.requires.0 c.requires.2 _ c.requires.1 _ c.last_before-a.ensures.last c.if-b-a.false c.if-b-many.false).counted

@@ -1,16 +1,11 @@
+-- `decimal::digit_count` meets its contract: 0 has the one digit that 1 has.
+use mathlib.Core.Path.{sym, ◌∙◌}
 use native.Mathlib.Omega.{arith}
-use Rattle.number.specs.Decimal.{width_one, width_more}
-use Rattle.number.proofs.Width.{width_64}
+use Rattle.number.proofs.Width.{width_between, width_max_one}
 use Rattle.number.proofs.decimal.digit_count.Goals as goal
-
-pub overflow_add-count : goal.overflow_add-count
-overflow_add-count c = omega (arith, width_64 c.args.n (omega arith))
-
-pub loop-rest-preserved : goal.loop-rest-preserved
-loop-rest-preserved c = omega (arith, width_more c.loop-rest.rest (omega arith))
 
 pub returns : goal.returns
 returns c =
-    let w = width_one c.loop-rest.rest (omega arith) in
-    let b = width_64 c.args.n (omega arith) in
-    omega arith
+    let e = c.ilog10.ensures in
+    let w = width_between _ _ e.power_le e.next_power_gt in
+    (sym (rw c.max.ensures at w) ∙ width_max_one c.args.n, omega arith)

@@ -1,6 +1,0 @@
--- `refused` meets its contract by computation; the answer is written out so that a wrong one is refused here.
-use mathlib.Core.Path.{refl}
-use Rattle.list.proofs.refused.Goals as goal
-
-pub returns : goal.returns
-returns c = refl
