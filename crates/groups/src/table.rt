@@ -4,9 +4,8 @@ ghost use Rattle.std.specs.Prelude.{◌≡◌, ℕ, ◌+◌, ◌*◌, ◌<◌, �
 ghost use Rattle.groups.specs.Forest.{at, later_mate_of};
 
 // A block of words each for the next corners, the vertices and the mates; what stands behind them is not read.
-// kept: the blocks stay one slice, for what group_list, mark and singular_ends promise (Grouped, VertexWords, EndsCounted) tells the
-// words by their places in the whole buffer. With a slice for each block the methods below prove alone, but each contract of a reader
-// puts the blocks together again (nexts ++ vertices ++ mates), and those promises have to be carried over to that list: no plainer.
+// The blocks are one slice, since what group_list, mark and singular_ends promise (Grouped, VertexWords, EndsCounted) tells the words
+// by their places in the whole buffer; a slice for each block is begun in docs/design-left.patch.
 #[derive(Clone, Copy)]
 pub struct EdgeTable<'a> {
     pub words: &'a [u32],

@@ -57,7 +57,6 @@ impl Refusal for InputFault {
 }
 
 // Puts the line of a refusal at the start of the output, and answers its length.
-// kept: seven numbers written out, as the C interface and `cut::numbers` write theirs, since each has another type to start from.
 fn put_refusal(fault: InputFault, output: &mut [u8; OUTPUT_BYTES]) -> usize
     ensures value { result ≡ length (Printed·line (refused fault)) }
     ensures output_after { output.new ≡ put 0 (Printed·line (refused fault)) output.old }

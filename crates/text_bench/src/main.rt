@@ -11,10 +11,10 @@ use std::io;
 const LIMIT: usize = list::IndexList::MAX_ENTRIES;
 
 // The three numbers of an answer: code, place and count.
-fn print_answer(rt: &impl Print, answer: Result<usize, (u32, usize)>) -> io::Result<()> {
+fn print_answer<R: Refusal + Copy>(rt: &impl Print, answer: Result<usize, R>) -> io::Result<()> {
     let (code, place, count) = match answer {
         Ok(count) => (0, 0, count),
-        Err((code, place)) => (code, place, 0),
+        Err(refusal) => (refusal.code(), refusal.place(), 0),
     };
     println!(rt; "{code} {place} {count}")
 }
@@ -32,7 +32,7 @@ fn show(rt: &impl Print, source: &[u8]) -> io::Result<()> {
     let mut list = [7i32; 4];
     let answer = text::read(source, &mut list);
     print_list(rt, &list)?;
-    print_answer(rt, answer.map_err(|fault| (fault.code(), fault.place())))
+    print_answer(rt, answer)
 }
 
 // Writes a list to a buffer of twelve bytes and prints them all: bytes past the text stay as they were.
@@ -41,7 +41,7 @@ fn show_written(rt: &impl Print, list: &[i32]) -> io::Result<()> {
     let answer = text::write(list, &mut out);
     rt.write_all(&out)?;
     print!(rt; " ")?;
-    print_answer(rt, answer.map_err(|fault| (fault.code(), fault.place())))
+    print_answer(rt, answer)
 }
 
 // At the limit: a text of `n` numbers `0`, and a lent list with one entry more than permitted.
@@ -57,7 +57,7 @@ fn show_many(rt: &impl Print, n: usize) -> io::Result<()>
     }
     source[2 * LIMIT + 3] = b']';
     let answer = text::read(&source, &mut list);
-    print_answer(rt, answer.map_err(|fault| (fault.code(), fault.place())))
+    print_answer(rt, answer)
 }
 
 // A list of one entry more than permitted is refused by 1.
@@ -65,7 +65,7 @@ fn show_too_long(rt: &impl Print) -> io::Result<()> {
     let list = [0i32; LIMIT + 1];
     let mut out = [b'.'; 12];
     let answer = text::write(&list, &mut out);
-    print_answer(rt, answer.map_err(|fault| (fault.code(), fault.place())))
+    print_answer(rt, answer)
 }
 
 fn values(rt: &impl Print) -> io::Result<()> {
