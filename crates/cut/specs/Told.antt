@@ -1,6 +1,7 @@
 -- The answers of the cut and of the class call, told in document 01's numbers ("Numbers given back, and their order").
 --
 --   cut_code r, cut_place r           the code and the place of the cut's refusal r
+--   cut_answer code place cut         a code, a place and counts as the numbers of an answer
 --   cut_told r                        the numbers of the cut's answer r
 --   classes_code r, classes_place r   the code and the place of the class call's refusal r
 --   classes_told r                    the numbers of the class call's answer r
@@ -25,17 +26,20 @@ cut_place (Cut·.NewListShort needed) = needed
 cut_place (Cut·.MapShort needed) = needed
 cut_place (Cut·.WorkShort needed) = needed
 
-abbrev pub cut_told : Result Cut CutRefusal → CutAnswer
-cut_told (Ok cut) =
+abbrev pub cut_answer : ℕ → ℕ → Cut → CutAnswer
+cut_answer code place cut =
     record {
-      code = 0;
-      place = 0;
+      code = code;
+      place = place;
       faces = cut.faces;
       corners = cut.corners;
       vertices = cut.vertices;
       singular_edges = cut.singular_edges;
       singular_vertices = cut.singular_vertices;
     }
+
+abbrev pub cut_told : Result Cut CutRefusal → CutAnswer
+cut_told (Ok cut) = cut_answer 0 0 cut
 cut_told (Err refusal) = cut_refused (cut_code refusal) (cut_place refusal)
 
 abbrev pub classes_code : ClassesRefusal → ℕ

@@ -1,7 +1,7 @@
 // The answers of the cut and of the class call: counts, refusals, and the numbers in which they are told.
 ghost use Rattle.std.specs.Prelude.{◌≡◌};
 ghost use Rattle.cut.specs.Cut.{cut_numbers};
-ghost use Rattle.cut.specs.Told.{cut_code, cut_place, cut_told, classes_code, classes_place};
+ghost use Rattle.cut.specs.Told.{cut_code, cut_place, cut_answer, cut_told, classes_code, classes_place};
 ghost use Rattle.cut.specs.declared.answer.CutRefusal.TheVariants as Cut·;
 ghost use Rattle.cut.specs.declared.answer.ClassesRefusal.TheVariants as Classes·;
 
@@ -104,6 +104,13 @@ pub fn numbers(answer: Result<Cut, CutRefusal>) -> [u64; 7]
         Ok(cut) => (0, 0, cut),
         Err(refusal) => (refusal.code(), refusal.place(), Cut::default()),
     };
+    seven_numbers(code, place, cut)
+}
+
+// Any seven numbers in document 01's order: a code, a place and counts.
+pub fn seven_numbers(code: u32, place: usize, cut: Cut) -> [u64; 7]
+    ensures { result ≡ cut_numbers (cut_answer code place cut) }
+{
     [
         u64::from(code),
         place as u64,

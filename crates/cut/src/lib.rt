@@ -13,7 +13,7 @@ ghost use Rattle.cut.specs.Made.{GroupsCut, CutMade};
 
 pub mod answer;
 
-pub use answer::{ClassesRefusal, Cut, CutRefusal, numbers};
+pub use answer::{ClassesRefusal, Cut, CutRefusal, numbers, seven_numbers};
 use list::{IndexList, ValidList};
 
 // The classes of the vertices 0 to n-1, a byte each at the start of `classes`. Refuses what the check refuses, a class buffer

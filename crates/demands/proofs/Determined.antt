@@ -23,6 +23,7 @@ use Rattle.list.proofs.IndexList.max_vertices.Reads as max_vertices
 use Rattle.list.proofs.IndexList.cursor.Reads as cursor
 use Rattle.list.proofs.cursor.CursorIterator.next.Reads as next
 use Rattle.list.proofs.cursor.Cursor.step.Reads as step
+use Rattle.list.proofs.is_end.Reads as is_end
 use Rattle.list.proofs.end_at.Reads as end_at
 use Rattle.list.proofs.vertex_at.Reads as vertex_at
 use Rattle.list.proofs.check.Reads as check
@@ -42,6 +43,7 @@ use Rattle.number.proofs.read_number.Reads as read_number
 use Rattle.edges.proofs.faces_on.Reads as faces_on
 use Rattle.edges.proofs.edge_table.Reads as edge_table
 use Rattle.cut.proofs.answer.numbers.Reads as numbers
+use Rattle.cut.proofs.answer.seven_numbers.Reads as seven_numbers
 use Rattle.cut.proofs.classes.Reads as classes
 use Rattle.cut.proofs.cut.Reads as cut
 use Rattle.list.proofs.FaultRefusal.code.Reads as fault_code
@@ -92,8 +94,12 @@ pub step_determined : (κs : Lfts 2) (a : _) (r₁ r₂ : _) (s₁ s₂ : _) →
 step_determined κs a r₁ r₂ s₁ s₂ p q =
     ((one_step a.0.now r₁ r₂ s₁.0.now s₂.0.now p.0 q.0).0, one_place r₁ r₂ a.0.now.at s₁.0.now.at s₂.0.now.at (p.1.0 ∙⁻¹ q.1.0) p.1.1.0 q.1.1.0, p.1.1.1 ∙⁻¹ q.1.1.1)
 
-pub next_determined : (κs : Lfts 2) (a : _) (r₁ r₂ : _) (s₁ s₂ : _) → next.Learnt κs a r₁ s₁ → next.Learnt κs a r₂ s₂ → (option_map face_seen r₁ ≡ option_map face_seen r₂) × (faces_left s₁.0.now ≡ faces_left s₂.0.now)
-next_determined κs a r₁ r₂ s₁ s₂ p q = one_step a.0.now r₁ r₂ s₁.0.now s₂.0.now p.0 q.0
+pub next_determined : (κs : Lfts 2) (a : _) (r₁ r₂ : _) (s₁ s₂ : _) → next.Learnt κs a r₁ s₁ → next.Learnt κs a r₂ s₂ → (option_map face_seen r₁ ≡ option_map face_seen r₂) × (s₁.0.now.at ≡ s₂.0.now.at) × (s₁.0.now.list.now ≡ s₂.0.now.list.now)
+next_determined κs a r₁ r₂ s₁ s₂ p q =
+    ((one_step a.0.now r₁ r₂ s₁.0.now s₂.0.now p.0.yields q.0.yields).0, one_place r₁ r₂ a.0.now.at s₁.0.now.at s₂.0.now.at (p.0.told ∙⁻¹ q.0.told) p.0.stays q.0.stays, p.0.same ∙⁻¹ q.0.same)
+
+pub is_end_determined : (κs : Lfts 0) (a : _) (r₁ r₂ : _) (s₁ s₂ : _) → is_end.Learnt κs a r₁ s₁ → is_end.Learnt κs a r₂ s₂ → r₁ ≡ r₂
+is_end_determined κs a r₁ r₂ s₁ s₂ p q = p ∙⁻¹ q
 
 pub end_at_determined : (κs : Lfts 1) (a : _) (r₁ r₂ : _) (s₁ s₂ : _) → end_at.Learnt κs a r₁ s₁ → end_at.Learnt κs a r₂ s₂ → r₁ ≡ r₂
 end_at_determined κs a r₁ r₂ s₁ s₂ p q = p ∙⁻¹ q
@@ -197,6 +203,9 @@ edge_from_determined κs a r₁ r₂ s₁ s₂ p q = p ∙⁻¹ q
 -- cut: the answer and each lent buffer
 pub numbers_determined : (κs : Lfts 0) (a : _) (r₁ r₂ : _) (s₁ s₂ : _) → numbers.Learnt κs a r₁ s₁ → numbers.Learnt κs a r₂ s₂ → r₁ ≡ r₂
 numbers_determined κs a r₁ r₂ s₁ s₂ p q = p ∙⁻¹ q
+
+pub seven_numbers_determined : (κs : Lfts 0) (a : _) (r₁ r₂ : _) (s₁ s₂ : _) → seven_numbers.Learnt κs a r₁ s₁ → seven_numbers.Learnt κs a r₂ s₂ → r₁ ≡ r₂
+seven_numbers_determined κs a r₁ r₂ s₁ s₂ p q = p ∙⁻¹ q
 
 pub classes_determined : (κs : Lfts 3) (a : _) (r₁ r₂ : _) (s₁ s₂ : _) → classes.Learnt κs a r₁ s₁ → classes.Learnt κs a r₂ s₂ → (r₁ ≡ r₂) × (s₁.1.1.0.now ≡ s₂.1.1.0.now) × (s₁.1.1.1.0.now ≡ s₂.1.1.1.0.now)
 classes_determined κs a r₁ r₂ s₁ s₂ p q = (classes_told_injective r₁ r₂ (p.0 ∙⁻¹ q.0), p.1.0 ∙⁻¹ q.1.0, p.1.1 ∙⁻¹ q.1.1)

@@ -1,22 +1,25 @@
 -- Counting the uses of an edge: in one face by its pairs of a corner and the next, and face by face.
-use Prim.Native.Nat.{ℕ, suc, ◌+◌, ◌≤◌}
+use Prim.Native.Nat.{ℕ, ◌+◌, ◌-◌, ◌≤◌, ◌<◌}
 use mathlib.Core.Path.{◌≡◌, refl, sym, ◌∙◌, ap, ap₂}
 use mathlib.Core.Bool.{Bool, true, false, cond}
-use mathlib.Core.List.{List, [], ◌∷◌, ◌++◌}
+use mathlib.Core.List.{List, [], ◌∷◌}
 use native.Mathlib.Omega.{arith}
-use lib.IntN.{ℤ}
-use lib.ListN.{length, take, drop, length-append}
+use native.Mathlib.Numerals.{add-one, unary_clauses}
+use lib.IntN.{ℤ, pos}
+use lib.Seq.{drop-cons}
+use lib.ListN.{length, get_or, drop, length-append}
 use Rattle.std.proofs.lemmas.List.Sums.{sum_by-cons}
 use lib.Dec.{eqb}
 use Rattle.std.specs.Prelude.{Option, Some, None, Ok, Err}
-use Rattle.std.specs.List.{filter, zip, sum_by}
+use Rattle.std.specs.List.{sum_by}
 use Rattle.list.specs.Faces.{Face, faces, num, vertices}
+use Rattle.mates.specs.Matching.{last_of}
 use Rattle.list.specs.Check.{check_of, refused}
 use Rattle.list.specs.Told.{code_of, place_of}
 use Rattle.list.specs.declared.Fault.{Fault}
 use Rattle.list.specs.declared.Fault.TheVariants as Fault·
+use Rattle.list.proofs.Repeats.{vertex_of, vertices_long}
 use Rattle.list.proofs.Checking.{corners_fit}
-use Rattle.order.specs.Choose.{choose}
 use Rattle.edges.specs.Uses.{Use, uses_to_end, uses_of_face, uses, is_edge, on_edge, uses_on, faces_on}
 use Rattle.edges.specs.Table.{is_pair, pair_of, edge_answer, edge_of}
 use Rattle.edges.specs.Told.{edge_told}
@@ -26,23 +29,40 @@ use Rattle.edges.proofs.Uses.{uses_long}
 use Rattle.edges.proofs.Faces.{face_anywhere}
 use Rattle.edges.proofs.Walk.{uses_left, left_all}
 
--- one test, on a pair and on a use
-one_more : (t : Bool) (ps : List (ℤ × ℤ)) (us : List Use) (p : ℤ × ℤ) (u : Use) → length ps ≡ length us → length (cond t (p ∷ ps) ps) ≡ length (cond t (u ∷ us) us)
-one_more true ps us p u e = ap suc e
-one_more false ps us p u e = e
+-- how often the edge between a and b lies between one number and the next, along v and the numbers behind it
+abbrev pub pairs_along : ℕ → ℕ → ℕ → List ℕ → ℕ
+pairs_along a b v [] = 0
+pairs_along a b v (w ∷ ws) = cond (is_edge v w a b) 1 0 + pairs_along a b w ws
 
--- the corners of a face paired with the next ones are its uses, so as many are on an edge
+-- one test, counted and chosen by
+one_more : (t : Bool) (u : Use) (us : List Use) → length (cond t (u ∷ us) us) ≡ cond t 1 0 + length us
+one_more true u us = omega arith
+one_more false u us = omega arith
 
-pairs_to_end : (a b c₀ c : ℕ) (x y : ℤ) (xs : List ℤ) → length (filter (λ p. is_edge (num p.0) (num p.1) a b) (zip (x ∷ xs) (xs ++ y ∷ []))) ≡ length (choose (on_edge a b) (uses_to_end c₀ (num y) c (num x) (vertices xs)))
-pairs_to_end a b c₀ c x y [] =
-    one_more (is_edge (num x) (num y) a b) [] [] (x, y) (record { corner = c; next = c₀; from = num x; to = num y }) refl
-pairs_to_end a b c₀ c x y (z ∷ zs) =
-    one_more (is_edge (num x) (num z) a b) (filter (λ p. is_edge (num p.0) (num p.1) a b) (zip (z ∷ zs) (zs ++ y ∷ []))) (choose (on_edge a b) (uses_to_end c₀ (num y) (c + 1) (num z) (vertices zs))) (x, z) (record { corner = c; next = c + 1; from = num x; to = num z })
-    (pairs_to_end a b c₀ (c + 1) z y zs)
+-- the pairs along a face, from its last corner to the first and on to the last, are its uses, so as many are on an edge
 
-pub pairs_on : (a b c : ℕ) (r : List ℤ) → length (filter (λ p. is_edge (num p.0) (num p.1) a b) (zip r (drop 1 r ++ take 1 r))) ≡ length (uses_on (uses_of_face c (vertices r)) a b)
+pairs_to_end : (a b c₀ v₀ c v : ℕ) (ws : List ℕ) → cond (is_edge (last_of v ws) v₀ a b) 1 0 + pairs_along a b v ws ≡ length (uses_on (uses_to_end c₀ v₀ c v ws) a b)
+pairs_to_end a b c₀ v₀ c v [] = sym (one_more (is_edge v v₀ a b) (record { corner = c; next = c₀; from = v; to = v₀ }) [])
+pairs_to_end a b c₀ v₀ c v (w ∷ ws) =
+    let us = uses_to_end c₀ v₀ (c + 1) w ws in
+    omega (arith, one_more (is_edge v w a b) (record { corner = c; next = c + 1; from = v; to = w }) (uses_on us a b), pairs_to_end a b c₀ v₀ (c + 1) w ws)
+
+pub pairs_on : (a b c : ℕ) (r : List ℤ) → pairs_along a b (last_of 0 (vertices r)) (vertices r) ≡ length (uses_on (uses_of_face c (vertices r)) a b)
 pairs_on a b c [] = refl
-pairs_on a b c (x ∷ xs) = pairs_to_end a b c c x x xs
+pairs_on a b c (x ∷ xs) = pairs_to_end a b c (num x) c (num x) (vertices xs)
+
+-- the vertex of a face's last corner
+pub last_vertex : (r : List ℤ) → num (get_or r (length r - 1) (pos 0)) ≡ last_of 0 (vertices r)
+last_vertex [] = refl
+last_vertex (x ∷ xs) = simp unary_clauses (go x xs)
+  where
+    go : (x : ℤ) (xs : List ℤ) → num (get_or (x ∷ xs) (length xs) (pos 0)) ≡ last_of (num x) (vertices xs)
+    go x [] = refl
+    go x (y ∷ ys) = go y ys
+
+-- the pairs from the corner at place i of a face on: the next one, and those behind it
+pub pairs_left : (a b from to : ℕ) (t : Bool) (r : List ℤ) (i : ℕ) → i < length r → to ≡ num (get_or r i (pos 0)) → t ≡ is_edge from to a b → pairs_along a b from (drop i (vertices r)) ≡ cond t 1 0 + pairs_along a b to (drop (i + 1) (vertices r))
+pairs_left a b from to t r i h e f = rw (f, e, drop-cons (vertices r) i 0 (rw (vertices_long r) h), vertex_of r i, add-one)
 
 -- the uses of an edge in each face, from its first corner on
 abbrev pub face_uses : ℕ → ℕ → Face → ℕ

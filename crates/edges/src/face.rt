@@ -55,13 +55,19 @@ fn is_edge(from: usize, to: usize, a: usize, b: usize) -> bool
     (from, to) == (a, b) || (from, to) == (b, a)
 }
 
-// The face's uses of the edge between a and b.
+// The face's uses of the edge between a and b: corner by corner, with the vertex before it, which for the first is the last.
+// kept: a loop, since the face zipped with itself from its second corner on, by skip, chain and take, took twice as long.
 pub fn uses_on(face: &[i32], a: usize, b: usize) -> usize
     ensures { result ≡ length (uses_on (uses_of_face 0 (vertices face.now)) a b) }
 {
-    let nexts = face.iter().skip(1).chain(face.iter().take(1));
-    face.iter()
-        .zip(nexts)
-        .filter(|(from, to)| is_edge(vertex(**from), vertex(**to), a, b))
-        .count()
+    let mut from = face.last().map_or(0, |last| vertex(*last));
+    let mut count = 0;
+    for entry in face {
+        let to = vertex(*entry);
+        if is_edge(from, to, a, b) {
+            count += 1;
+        }
+        from = to;
+    }
+    count
 }

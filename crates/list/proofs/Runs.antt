@@ -1,6 +1,6 @@
 -- Laws of runs and faces: what a list is from one position on, and where its faces stand.
 use Prim.Native.Nat.{ℕ, zero, suc, ◌+◌, ◌-◌, ◌≤◌, ◌<◌}
-use mathlib.Core.Path.{◌≡◌, refl, ◌∙◌, ap, subst⁻¹}
+use mathlib.Core.Path.{◌≡◌, refl, ◌∙◌, ap, subst, subst⁻¹}
 use mathlib.Core.Bool.{Bool, true, false}
 use mathlib.Core.List.{List, [], ◌∷◌}
 use native.Mathlib.Numerals.{add-one}
@@ -11,7 +11,10 @@ use native.Mathlib.Decide.{dec_lt}
 use lib.ListN.{length, take, drop, length-drop, drop_of_length-le}
 use lib.Seq.{drop-drop, length-take-le, get_or-take}
 use Rattle.list.specs.Faces.{is_end, run_length, NoEnd, runs, Face, faces_from, faces}
-use Rattle.list.specs.Cursor.{Face_at, step_at}
+use Rattle.std.proofs.lemmas.Iterator.{YieldsList}
+use Rattle.std.proofs.lemmas.Iterator.Consumers.{YieldsList-from_shown}
+use Rattle.list.specs.Cursor.{Face_at, step_at, face_seen, faces_left, StepMade}
+use Rattle.list.specs.declared.cursor.Cursor.{Cursor}
 use Rattle.list.proofs.First.{first_fits, first_before}
 
 -- a list that isn't empty is its first run, then the runs behind the -1 that ends it
@@ -50,6 +53,10 @@ module _ (l : List ℤ) (i : ℕ) (h : i < length l) where
 
 pub left_done : (l : List ℤ) (i : ℕ) → length l ≤ i → faces_from i (runs (drop i l)) ≡ []
 left_done l i h = rw (drop_of_length-le l h)
+
+-- calls of the cursor give the faces that are left
+pub cursor_yields : (s : Cursor) (fs : List Face) → faces_left s ≡ fs → YieldsList StepMade face_seen s fs
+cursor_yields s fs e = subst (YieldsList StepMade face_seen s) e (YieldsList-from_shown StepMade face_seen faces_left (λ t u h. ap length h.yields.0) (λ t x u h. h.yields) s)
 
 -- the face f stands in the list l
 pub record Within (l : List ℤ) (f : Face) : Type 0 where

@@ -47,7 +47,7 @@ module _ (l : List ℤ) where
     pub face_missing : None ≡ slice_get (faces l) k → [] ≡ face_of l k
     face_missing e = (span_in_none (faces l) k e).1
 
-pub ruleset shown_cases = (span_got, face_got, got_fits, span_missing, face_missing)
+pub ruleset shown_cases = (span_got, got_fits, span_missing)
 
 -- a span lies within the list, and the list's part there is the face
 pub record Shown (l : List ℤ) (p : Span) (r : List ℤ) : Type 0 where
@@ -80,3 +80,6 @@ shown_from l (r ∷ rs) i e k = go (shown_from l rs) (dec_lt i (length l)) k
 
 pub span_shown : (l : List ℤ) (k : ℕ) → Shown l (span_of l k) (face_of l k)
 span_shown l k = shown_from l (runs l) 0 refl k
+
+pub shown_at : (l : List ℤ) (k : ℕ) (p : Span) → p ≡ span_of l k → Shown l p (face_of l k)
+shown_at l k p e = subst⁻¹ (λ (q : Span). Shown l q (face_of l k)) e (span_shown l k)

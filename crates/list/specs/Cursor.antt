@@ -5,7 +5,9 @@
 --   Step               what a step answers: a face's start and end with the position of the next cursor, or the end of the list
 --   step_at l i        the answer to a step of the cursor at position i of the list l
 --   step_told r p      the answer r of a step that leaves the cursor at position p
-use Rattle.std.specs.Prelude.{ℕ, ℤ, ◌+◌, List, [], ◌∷◌, length, drop, Option, Some, None}
+--   StepMade c r d     a step of the cursor c answers r and leaves the cursor d
+use Rattle.std.specs.Prelude.{ℕ, ℤ, ◌≡◌, ◌+◌, List, [], ◌∷◌, length, drop, Option, Some, None, IfNone}
+use Rattle.std.specs.Iterator.{YieldsFirstBy}
 use Rattle.list.specs.Faces.{Face, runs, faces_from}
 use Rattle.list.specs.declared.cursor.Cursor.{Cursor}
 use Rattle.list.specs.declared.cursor.Face as Declared
@@ -30,3 +32,9 @@ step_at l i = step_of i (runs (drop i l))
 abbrev pub step_told : Option Declared.Face → ℕ → Step
 step_told None next = Done
 step_told (Some f) next = Face_at f.start (f.start + length f.entries.now) next
+
+pub record StepMade (c : Cursor) (r : Option Declared.Face) (d : Cursor) : Type 0 where
+  pub yields : YieldsFirstBy face_seen faces_left c r d
+  pub told : step_told r d.at ≡ step_at c.list.now c.at
+  pub stays : IfNone r (d.at ≡ c.at)
+  pub same : d.list.now ≡ c.list.now

@@ -1,7 +1,7 @@
 // The cursor, which goes from face to face.
 ghost use Rattle.std.specs.Prelude.{◌≡◌, IfNone};
 ghost use Rattle.std.specs.Iterator.{YieldsFirstBy, item_count};
-ghost use Rattle.list.specs.Cursor.{face_seen, faces_left, step_told, step_at};
+ghost use Rattle.list.specs.Cursor.{face_seen, faces_left, step_told, step_at, StepMade};
 
 // A face of a list: the position where it starts, and its entries without its -1.
 #[derive(Clone, Copy)]
@@ -43,7 +43,7 @@ impl<'a> Cursor<'a> {
 impl<'a> Iterator for Cursor<'a> {
     type Item = Face<'a>;
 
-    ghost next_gives = { YieldsFirstBy face_seen faces_left };
+    ghost next_gives = { StepMade };
 
     ghost remaining = { item_count faces_left };
 

@@ -21,7 +21,7 @@ mod valid;
 pub use cursor::{Cursor, Face};
 pub use entry::{is_end, vertex};
 pub use refusal::Refusal;
-use rules::FaceFault;
+pub use rules::FaceFault;
 pub use valid::ValidList;
 
 // The list type: it carries the limits, and makes the cursor that goes through a list.
@@ -215,12 +215,9 @@ pub fn face<'a>(before: &'a [i32], after: &'a [i32], which: Which, k: usize) -> 
     }
 }
 
-#[tactic(auto, using(crate::proofs::Shown::shown_cases))]
 fn part(list: &[i32], k: usize) -> &[i32]
     ensures { result.now ≡ face_of list.now k }
 {
-    match face_at(list, k) {
-        Some(face) => face.entries,
-        None => &list[..0],
-    }
+    let span = face_span(list, k);
+    &list[span.start..span.end]
 }

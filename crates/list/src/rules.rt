@@ -56,6 +56,8 @@ fn mark(face: &[i32], flags: &mut [u8]) -> Option<usize>
 }
 
 // Clears the flags of the part's vertices, the only ones that may be set.
+// Out of line, since within `check_face` its loop takes registers that the walk over short faces needs.
+#[inline(never)]
 fn unmark(part: &[i32], flags: &mut [u8])
     requires { SetWithin (vertices part.now) flags.old }
     ensures { flags.new ≡ replicate (length flags.old) 0 }
@@ -77,6 +79,8 @@ fn repeat_by_flags(face: &[i32], flags: &mut [u8]) -> Option<usize>
 }
 
 // The face's first fault: an entry outside, then too few entries, then a repeat. The flags are 0 before and afterwards.
+// Inline in both walks of `check_faces`: out of line it hands its answer on through memory, a quarter more work on triangles.
+#[inline]
 #[tactic(auto, using(crate::proofs::Faults::fault_told))]
 pub fn check_face(face: &[i32], n: usize, flags: &mut [u8]) -> Result<(), FaceFault>
     requires { NoEnd face.now × Flags n flags.old }

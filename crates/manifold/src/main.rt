@@ -12,7 +12,10 @@ fn read_full(reader: &mut impl Read, buffer: &mut [u8]) -> usize
     ensures { result ≤ length buffer.new }
 {
     let mut n = 0;
-    while let Ok(more @ 1..) = reader.read(&mut buffer[n..]) {
+    while n < buffer.len() {
+        let Ok(more @ 1..) = reader.read(&mut buffer[n..]) else {
+            return n;
+        };
         n += more;
     }
     n

@@ -25,7 +25,7 @@ clip_same m k (b ∷ bs) e = go (is_digit b) (clip_same (m * 10 + (b - zero_byte
 
 -- a turn: the digit at i goes into the value, which stays at `beyond` once past it
 pub digit_more : (bs : List ℕ) (i m : ℕ) → i < length bs → is_digit (get_or bs i 0) ≡ true
-    → clipped (decimal (min (min (m * 10) beyond + (get_or bs i 0 - zero_byte)) beyond) (drop (i + 1) bs)) ≡ clipped (decimal m (drop i bs))
+    → clipped (decimal (min (m * 10 + (get_or bs i 0 - zero_byte)) beyond) (drop (i + 1) bs)) ≡ clipped (decimal m (drop i bs))
 digit_more bs i m h e =
     rw (drop-cons bs i 0 h, e, add-one i)
-    (clip_same (min (min (m * 10) beyond + (get_or bs i 0 - zero_byte)) beyond) (m * 10 + (get_or bs i 0 - zero_byte)) (drop (suc i) bs) (omega arith))
+    (clip_same (min (m * 10 + (get_or bs i 0 - zero_byte)) beyond) (m * 10 + (get_or bs i 0 - zero_byte)) (drop (suc i) bs) (omega arith))

@@ -28,11 +28,12 @@ pub fn ends_line(b: u8) -> bool
     matches!(b, b'\n' | b'\r')
 }
 
-// A byte of a number, inside the brackets.
+// A byte of a number, inside the brackets. `#` is asked for behind the separators, here and in `in_gap`: the compiler then makes
+// one test of all of them.
 pub fn in_number(b: u8) -> bool
     ensures { result ≡ in_number b }
 {
-    !is_separator(b) && !matches!(b, HASH | OPEN | CLOSE)
+    !is_separator(b) && b != HASH && !matches!(b, OPEN | CLOSE)
 }
 
 pub fn is_digit(b: u8) -> bool
@@ -52,5 +53,5 @@ pub fn in_comment(comment: bool, b: u8) -> bool
 pub fn in_gap(comment: bool, b: u8) -> bool
     ensures { result ≡ in_gap comment b }
 {
-    comment || b == HASH || is_separator(b)
+    comment || is_separator(b) || b == HASH
 }

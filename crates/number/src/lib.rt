@@ -45,7 +45,8 @@ fn split_sign(number: &[u8]) -> (bool, &[u8])
     }
 }
 
-// The value of one or more digits, kept at the greatest `u32` once past it: that is out of range too.
+// The value of one or more digits, kept at the greatest `u32` once past it: that is out of range too. It is worked out in 64 bits,
+// where a digit more has room.
 // kept: no Option for a value past the range, since a byte further on that is no digit makes it code 11: the scan goes on.
 fn magnitude(digits: &[u8]) -> Option<u32>
     ensures { result ≡ clipped (magnitude_of digits.now) }
@@ -53,14 +54,14 @@ fn magnitude(digits: &[u8]) -> Option<u32>
     if digits.is_empty() {
         return None;
     }
-    let mut m: u32 = 0;
+    let mut m: u64 = 0;
     for b in digits {
         if !is_digit(*b) {
             return None;
         }
-        m = m.saturating_mul(10).saturating_add(u32::from(*b - ZERO));
+        m = (m * 10 + u64::from(*b - ZERO)).min(u64::from(u32::MAX));
     }
-    Some(m)
+    Some(m as u32)
 }
 
 // The number of this sign and magnitude, where it is in range.

@@ -58,6 +58,8 @@ impl<'a> Reader<'a> {
     }
 
     // What stands at the first place from here on that is no separator: a number, or the closing bracket.
+    // Inlined into both passes, so that the place and the answer need not go through memory for each number.
+    #[inline]
     fn next_entry(&mut self) -> Result<Option<Entry>, ReadFault>
         ensures text { self.new.text.now ≡ self.old.text.now }
         ensures value { item_told self.new.at result ≡ item_of (length self.old.text.now) (tokens_at self.old.text.now self.old.at) }

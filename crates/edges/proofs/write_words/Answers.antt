@@ -14,17 +14,17 @@ loop-face-init c =
 
 pub slice_bounds-write_words-end : goal.slice_bounds-write_words-end
 slice_bounds-write_words-end c =
-    let room : c.loop-face.at + length c.in-Some.face.entries.now ≤ length (uses c.args.list.now) = wording_room _ _ _ _ _ _ _ c.in-Some.ensures.steps c.loop-face.invariant in
+    let room : c.loop-face.at + length c.in-Some.face.entries.now ≤ length (uses c.args.list.now) = wording_room _ _ _ _ _ _ _ c.in-Some.ensures.steps.yields c.loop-face.invariant in
     omega (arith, c.requires.room.0)
 
 pub write_words-requires-clause-face_bound : goal.write_words-requires-clause-face_bound
 write_words-requires-clause-face_bound c =
-    omega (arith, wording_room _ _ _ _ _ _ _ c.in-Some.ensures.steps c.loop-face.invariant, few_corners _ _ c.requires.valid)
+    omega (arith, wording_room _ _ _ _ _ _ _ c.in-Some.ensures.steps.yields c.loop-face.invariant, few_corners _ _ c.requires.valid)
 
 pub write_words-requires-clause-by_index : goal.write_words-requires-clause-by_index
 write_words-requires-clause-by_index c =
     let f = c.in-Some.face.entries.now in
-    λ i h. vertex_in max_vertices f (wording_valid _ _ _ _ _ _ _ c.in-Some.ensures.steps c.loop-face.invariant) i (rw (vertices_long f) h)
+    λ i h. vertex_in max_vertices f (wording_valid _ _ _ _ _ _ _ c.in-Some.ensures.steps.yields c.loop-face.invariant) i (rw (vertices_long f) h)
 
 pub loop-face-preserved : goal.loop-face-preserved
 loop-face-preserved c =
@@ -32,9 +32,9 @@ loop-face-preserved c =
     let at = c.loop-face.at in
     let keys : length c.write_words.new.keys ≡ length f = ap length c.write_words.ensures.keys ∙ words_long key_of at f in
     let words : length c.write_words.new.words ≡ length f = ap length c.write_words.ensures.words ∙ words_long corner_of at f in
-    wording_turn _ _ _ _ _ _ _ _ _ _ c.in-Some.ensures.steps c.loop-face.invariant (c.loop-face.auto.keys ∙ c.requires.room.0) (c.loop-face.auto.words ∙ c.requires.room.1) keys words c.write_words.ensures.keys c.write_words.ensures.words
+    wording_turn _ _ _ _ _ _ _ _ _ _ c.in-Some.ensures.steps.yields c.loop-face.invariant (c.loop-face.auto.keys ∙ c.requires.room.0) (c.loop-face.auto.words ∙ c.requires.room.1) keys words c.write_words.ensures.keys c.write_words.ensures.words
 
 pub returns : goal.returns
 returns c =
-    let done = wording_done _ _ _ _ _ c.in-None.ensures.steps.0 c.loop-face.invariant (c.loop-face.auto.keys ∙ c.requires.room.0) (c.loop-face.auto.words ∙ c.requires.room.1) in
+    let done = wording_done _ _ _ _ _ c.in-None.ensures.steps.yields.0 c.loop-face.invariant (c.loop-face.auto.keys ∙ c.requires.room.0) (c.loop-face.auto.words ∙ c.requires.room.1) in
     record { keys = done.0; words = done.1 }

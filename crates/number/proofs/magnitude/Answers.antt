@@ -8,7 +8,7 @@ loop-b-preserved c =
     let k = c.loop-b in
     let bs = c.args.digits.now in (
       omega arith,
-      rw (c.saturating_add-m.ensures, c.saturating_mul.ensures, c.from.ensures)
+      rw (c.min-m.ensures, c.from.ensures, c.from-in-loop-b.ensures)
           (digit_more bs k.b-index k.m (omega arith)
           (sym c.is_digit.ensures ∙ c.if-not-is_digit.false) ∙ k.invariant.1),
     )

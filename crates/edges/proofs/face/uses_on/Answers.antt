@@ -1,25 +1,23 @@
--- `face::uses_on` meets its contract: it counts among the pairs of a corner and the next one.
-use Rattle.std.proofs.Common.{rules, tests, ◌∙◌}
-use Rattle.std.proofs.lemmas.Iterator.{YieldsList-from_slice, YieldsList-from_take, YieldsList-from_zip}
-use Rattle.std.proofs.lemmas.Iterator.Adapters.{YieldsList-from_skip}
-use Rattle.std.proofs.lemmas.Iterator.Consumers.{YieldsList-at, YieldsList-from_chain, YieldsList-from_filter, count_from_yields_List}
-use lib.IntN.{ℤ}
+use Rattle.std.proofs.Common.{rules, ◌≡◌, ◌-◌, ◌∙◌, arith, get_or, length, pos}
+use Rattle.std.proofs.lemmas.Int.{to_z-of_z}
 use Rattle.list.specs.Faces.{num}
-use Rattle.edges.specs.Uses.{is_edge}
-use Rattle.edges.proofs.Question.{pairs_on}
+use Rattle.edges.proofs.Question.{pairs_on, last_vertex, pairs_left}
 use Rattle.edges.proofs.face.uses_on.Goals as goal
+use Rattle.edges.proofs.face.uses_on.Goals.{then-is_edge, else-is_edge}
 
-pub returns : goal.returns
-returns c =
+pub loop-entry-init : goal.loop-entry-init
+loop-entry-init c =
     let r = c.args.face.now in
-    count_from_yields_List c.filter.result c.count.result c.count.ensures.ran
-    (YieldsList-from_filter _ (λ (p : ℤ × ℤ). is_edge (num p.0) (num p.1) c.args.a c.args.b)
-    (YieldsList-at c.filter.ensures.source
-    (YieldsList-from_zip (YieldsList-at c.zip.ensures.first (YieldsList-from_slice r cc))
-    (YieldsList-at c.zip.ensures.second
-    (YieldsList-from_chain
-    (YieldsList-at c.chain-nexts.ensures.first (YieldsList-from_skip 1 (YieldsList-at c.skip.ensures.source (YieldsList-from_slice r cc)) c.skip.ensures.count))
-    (YieldsList-at c.chain-nexts.ensures.second (YieldsList-from_take 1 (YieldsList-at c.take.ensures.source (YieldsList-from_slice r cc)) c.take.ensures.count))
-    c.chain-nexts.ensures.first_done c.chain-nexts.ensures.second_done))))
-    c.filter.ensures.closure (λ x r q k. search (rules, tests)))
-    ∙ pairs_on c.args.a c.args.b 0 r
+    let last : c.map_or-from.result ≡ num (get_or r (length r - 1) (pos 0)) = search rules in
+    record { few = omega arith; all = rw (last ∙ last_vertex r) (omega (arith, pairs_on c.args.a c.args.b 0 r)) }
+
+pub loop-entry-preserved : goal.loop-entry-preserved
+loop-entry-preserved c =
+    let r = c.args.face.now in
+    let i = c.loop-entry.entry-index in
+    let to : c.vertex-to.result ≡ num (get_or r i (pos 0)) = grind (arith, to_z-of_z) in
+    let left = pairs_left c.args.a c.args.b c.loop-entry.from c.vertex-to.result c.is_edge.result r i c.loop-entry-test.true to c.is_edge.ensures in
+    elim c.if-is_edge.branch [
+      | then-is_edge w ↦ record { few = omega arith; all = rw w.from-is (omega (arith, c.loop-entry.invariant.all, rw w.if-is_edge.true at left)) }
+      | else-is_edge w ↦ record { few = omega arith; all = rw w.from-is (omega (arith, c.loop-entry.invariant.all, rw w.if-is_edge.false at left)) }
+    ]
