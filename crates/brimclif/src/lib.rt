@@ -4,12 +4,14 @@
 
 ghost use Rattle.std.specs.Prelude.{◌≡◌, ◌-◌, ◌≤◌, ◌∷◌, length, replicate};
 ghost use Rattle.list.specs.Check.{check_of};
+ghost use Rattle.list.specs.Told.{check_numbers};
 ghost use Rattle.list.specs.Show.{span_of};
-ghost use Rattle.text.specs.Reading.{read_of, read_into};
+ghost use Rattle.text.specs.Reading.{read_of, read_into, read_numbers};
 ghost use Rattle.text.specs.Writing.{write_of, write_into};
 ghost use Rattle.edges.specs.Table.{edge_of};
+ghost use Rattle.edges.specs.Told.{edge_numbers};
 ghost use Rattle.cut.specs.Cut.{cut_numbers, cut_of, cut_list, cut_map, cut_work, classes_answer, classes_bytes, classes_work};
-ghost use Rattle.brimclif.specs.Numbers.{check_numbers, edge_numbers, classes_numbers, read_numbers, write_numbers, span_numbers};
+ghost use Rattle.brimclif.specs.Numbers.{classes_numbers, write_numbers, span_numbers};
 
 use list::Refusal;
 
@@ -30,10 +32,7 @@ fn refused<R: Refusal + Copy, const N: usize>(refusal: R) -> [u64; N]
 pub fn brimclif_check(list: &[i32], n: u64, answer: &mut [u64; 4])
     ensures { answer.new ≡ check_numbers (check_of list.now n) }
 {
-    *answer = match list::check(list, n as usize) {
-        Ok(counts) => [0, 0, counts.faces as u64, counts.corners as u64],
-        Err(fault) => refused(fault),
-    };
+    *answer = list::numbers(list::check(list, n as usize));
 }
 
 // How many faces lie on the edge between a and b: code, place, faces.
@@ -41,10 +40,7 @@ pub fn brimclif_check(list: &[i32], n: u64, answer: &mut [u64; 4])
 pub fn brimclif_edge(list: &[i32], n: u64, a: i32, b: i32, answer: &mut [u64; 3])
     ensures { answer.new ≡ edge_numbers (edge_of list.now n a b) }
 {
-    *answer = match edges::faces_on(list, n as usize, a, b) {
-        Ok(faces) => [0, 0, faces as u64],
-        Err(refusal) => refused(refusal),
-    };
+    *answer = edges::numbers(edges::faces_on(list, n as usize, a, b));
 }
 
 // The class of each vertex, to the start of the class buffer: code, place.
@@ -90,10 +86,7 @@ pub fn brimclif_read(text: &[u8], list: &mut [i32], answer: &mut [u64; 3])
     ensures answer_after { answer.new ≡ read_numbers (read_of text.now (length list.old)) }
     ensures list_after { list.new ≡ read_into text.now list.old }
 {
-    *answer = match text::read(text, list) {
-        Ok(entries) => [0, 0, entries as u64],
-        Err(fault) => refused(fault),
-    };
+    *answer = text::read_numbers(text::read(text, list));
 }
 
 // Writes the list's text to the start of the buffer: code, place, the text's length.

@@ -5,12 +5,14 @@
 
 ghost use Rattle.std.specs.Prelude.{◌≡◌, length};
 ghost use Rattle.list.specs.Check.{check_of};
+ghost use Rattle.list.specs.Told.{check_numbers};
 ghost use Rattle.list.specs.Show.{span_of};
-ghost use Rattle.text.specs.Reading.{read_of, read_into};
+ghost use Rattle.text.specs.Reading.{read_of, read_into, read_numbers};
 ghost use Rattle.text.specs.Writing.{write_of, write_into};
 ghost use Rattle.edges.specs.Table.{edge_of};
+ghost use Rattle.edges.specs.Told.{edge_numbers};
 ghost use Rattle.cut.specs.Cut.{cut_numbers, cut_of, cut_list, cut_map, cut_work, classes_answer, classes_bytes, classes_work};
-ghost use Rattle.brimclif.specs.Numbers.{check_numbers, edge_numbers, classes_numbers, read_numbers, write_numbers, span_numbers};
+ghost use Rattle.brimclif.specs.Numbers.{classes_numbers, write_numbers, span_numbers};
 
 // Whether the list is valid with n vertices: code, place, faces, corners.
 // Refused by 1 to 5.

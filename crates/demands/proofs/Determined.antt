@@ -27,6 +27,7 @@ use Rattle.list.proofs.is_end.Reads as is_end
 use Rattle.list.proofs.end_at.Reads as end_at
 use Rattle.list.proofs.vertex_at.Reads as vertex_at
 use Rattle.list.proofs.check.Reads as check
+use Rattle.list.proofs.numbers.Reads as check_numbers
 use Rattle.list.proofs.face_span.Reads as face_span
 use Rattle.list.proofs.face.Reads as face
 use Rattle.number.proofs.bytes.is_separator.Reads as is_separator
@@ -38,9 +39,11 @@ use Rattle.number.proofs.bytes.in_gap.Reads as in_gap
 use Rattle.number.proofs.decimal.digit_count.Reads as digit_count
 use Rattle.number.proofs.decimal.put_digits.Reads as put_digits
 use Rattle.text.proofs.read.Reads as read
+use Rattle.text.proofs.read_numbers.Reads as read_numbers
 use Rattle.text.proofs.write.Reads as write
 use Rattle.number.proofs.read_number.Reads as read_number
 use Rattle.edges.proofs.faces_on.Reads as faces_on
+use Rattle.edges.proofs.numbers.Reads as edge_numbers
 use Rattle.edges.proofs.edge_table.Reads as edge_table
 use Rattle.cut.proofs.answer.numbers.Reads as numbers
 use Rattle.cut.proofs.answer.seven_numbers.Reads as seven_numbers
@@ -110,6 +113,9 @@ vertex_at_determined κs a r₁ r₂ s₁ s₂ p q = p ∙⁻¹ q
 pub check_determined : (κs : Lfts 1) (a : _) (r₁ r₂ : _) (s₁ s₂ : _) → check.Learnt κs a r₁ s₁ → check.Learnt κs a r₂ s₂ → r₁ ≡ r₂
 check_determined κs a r₁ r₂ s₁ s₂ p q = check_told_injective r₁ r₂ (p ∙⁻¹ q)
 
+pub check_numbers_determined : (κs : Lfts 0) (a : _) (r₁ r₂ : _) (s₁ s₂ : _) → check_numbers.Learnt κs a r₁ s₁ → check_numbers.Learnt κs a r₂ s₂ → r₁ ≡ r₂
+check_numbers_determined κs a r₁ r₂ s₁ s₂ p q = p ∙⁻¹ q
+
 pub face_span_determined : (κs : Lfts 1) (a : _) (r₁ r₂ : _) (s₁ s₂ : _) → face_span.Learnt κs a r₁ s₁ → face_span.Learnt κs a r₂ s₂ → r₁ ≡ r₂
 face_span_determined κs a r₁ r₂ s₁ s₂ p q = p ∙⁻¹ q
 
@@ -166,6 +172,9 @@ put_digits_determined κs a r₁ r₂ s₁ s₂ p q = p ∙⁻¹ q
 pub read_determined : (κs : Lfts 2) (a : _) (r₁ r₂ : _) (s₁ s₂ : _) → read.Learnt κs a r₁ s₁ → read.Learnt κs a r₂ s₂ → (r₁ ≡ r₂) × (s₁.1.0.now ≡ s₂.1.0.now)
 read_determined κs a r₁ r₂ s₁ s₂ p q = (read_told_injective r₁ r₂ (p.0 ∙⁻¹ q.0), p.1 ∙⁻¹ q.1)
 
+pub read_numbers_determined : (κs : Lfts 0) (a : _) (r₁ r₂ : _) (s₁ s₂ : _) → read_numbers.Learnt κs a r₁ s₁ → read_numbers.Learnt κs a r₂ s₂ → r₁ ≡ r₂
+read_numbers_determined κs a r₁ r₂ s₁ s₂ p q = p ∙⁻¹ q
+
 pub write_determined : (κs : Lfts 2) (a : _) (r₁ r₂ : _) (s₁ s₂ : _) → write.Learnt κs a r₁ s₁ → write.Learnt κs a r₂ s₂ → (r₁ ≡ r₂) × (s₁.1.0.now ≡ s₂.1.0.now)
 write_determined κs a r₁ r₂ s₁ s₂ p q = (write_told_injective r₁ r₂ (p.0 ∙⁻¹ q.0), p.1 ∙⁻¹ q.1)
 
@@ -187,6 +196,9 @@ read_from_determined κs a r₁ r₂ s₁ s₂ p q = p ∙⁻¹ q
 -- edges
 pub faces_on_determined : (κs : Lfts 1) (a : _) (r₁ r₂ : _) (s₁ s₂ : _) → faces_on.Learnt κs a r₁ s₁ → faces_on.Learnt κs a r₂ s₂ → r₁ ≡ r₂
 faces_on_determined κs a r₁ r₂ s₁ s₂ p q = edge_told_injective r₁ r₂ (p ∙⁻¹ q)
+
+pub edge_numbers_determined : (κs : Lfts 0) (a : _) (r₁ r₂ : _) (s₁ s₂ : _) → edge_numbers.Learnt κs a r₁ s₁ → edge_numbers.Learnt κs a r₂ s₂ → r₁ ≡ r₂
+edge_numbers_determined κs a r₁ r₂ s₁ s₂ p q = p ∙⁻¹ q
 
 pub edge_table_determined : (κs : Lfts 2) (a : _) (r₁ r₂ : _) (s₁ s₂ : _) → edge_table.Learnt κs a r₁ s₁ → edge_table.Learnt κs a r₂ s₂ → (r₁ ≡ r₂) × (s₁.1.1.0.now ≡ s₂.1.1.0.now)
 edge_table_determined κs a r₁ r₂ s₁ s₂ p q = (p.1 ∙⁻¹ q.1, p.0 ∙⁻¹ q.0)

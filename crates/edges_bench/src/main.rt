@@ -80,10 +80,8 @@ fn show(rt: &impl Print, list: &[i32], n: usize) -> io::Result<()> {
 }
 
 fn ask(rt: &impl Print, list: &[i32], n: usize, a: i32, b: i32) -> io::Result<()> {
-    match edges::faces_on(list, n, a, b) {
-        Ok(faces) => println!(rt; "0 0 {faces}"),
-        Err(refusal) => println!(rt; "{} {} 0", refusal.code(), refusal.place()),
-    }
+    let [code, place, faces] = edges::numbers(edges::faces_on(list, n, a, b));
+    println!(rt; "{code} {place} {faces}")
 }
 
 // Faces of three vertices in a row, `step` apart, one behind the other, or all round vertex 0.

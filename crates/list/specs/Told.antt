@@ -2,8 +2,9 @@
 --
 --   code_of f, place_of f   the code and the place of the refusal f
 --   check_told r            the numbers of the check's answer r
---   valid_told r            the same, where the list itself is answered
-use Rattle.std.specs.Prelude.{ℕ, Result, Ok, Err}
+--   check_numbers r         these in their order: code, place, faces, corners
+--   valid_told r            the same as check_told, where the list itself is answered
+use Rattle.std.specs.Prelude.{ℕ, List, [], ◌∷◌, Result, Ok, Err}
 use Rattle.list.specs.Check.{CheckAnswer, refused, accepted}
 use Rattle.list.specs.declared.Counts.{Counts}
 use Rattle.list.specs.declared.valid.ValidList.{ValidList}
@@ -27,6 +28,9 @@ place_of (Fault·.Repeated place) = place
 abbrev pub check_told : Result Counts Fault → CheckAnswer
 check_told (Ok counts) = accepted counts.faces counts.corners
 check_told (Err fault) = refused (code_of fault) (place_of fault)
+
+abbrev pub check_numbers : CheckAnswer → List ℕ
+check_numbers r = r.code ∷ r.place ∷ r.faces ∷ r.corners ∷ []
 
 abbrev pub valid_told : Result ValidList Fault → CheckAnswer
 valid_told (Ok list) = accepted list.faces list.corners

@@ -6,7 +6,7 @@ ghost use Rattle.std.specs.Prelude.{◌≡◌, ◌<◌, ◌≤◌, length, get_o
 ghost use Rattle.list.specs.Limits.{max_entries, max_vertices};
 ghost use Rattle.list.specs.Faces.{is_end, num, faces, corners};
 ghost use Rattle.list.specs.Check.{check_of, check_faces, accepted};
-ghost use Rattle.list.specs.Told.{code_of, place_of, check_told, valid_told};
+ghost use Rattle.list.specs.Told.{code_of, place_of, check_told, check_numbers, valid_told};
 ghost use Rattle.list.specs.Flags.{Flags};
 ghost use Rattle.std.specs.Option.{option_map};
 ghost use Rattle.list.specs.Cursor.{face_seen};
@@ -141,6 +141,17 @@ pub fn check(list: &[i32], n: usize) -> Result<Counts, Fault>
         check_faces::<{ IndexList::FEW_VERTICES }>(list, n)
     } else {
         check_faces::<{ IndexList::MAX_VERTICES }>(list, n)
+    }
+}
+
+// The four numbers of an answer in document 01's order; a refusal has no counts.
+// kept: `as`, here and in the crates above, since a usize and a u64 have no From.
+pub fn numbers(answer: Result<Counts, Fault>) -> [u64; 4]
+    ensures { result ≡ check_numbers (check_told answer) }
+{
+    match answer {
+        Ok(counts) => [0, 0, counts.faces as u64, counts.corners as u64],
+        Err(fault) => [u64::from(fault.code()), fault.place() as u64, 0, 0],
     }
 }
 

@@ -6,6 +6,7 @@
 --   read_code f        the code of the fault f
 --   read_place f       its place
 --   read_told r        what `read` answers, in these numbers
+--   read_numbers r     these in their order: code, place, entries read
 --   read_fault f       the fault of a text whose leftmost fault is the number's fault f
 --   room_of n          how many numbers a lent list of n entries takes
 --   behind n ks        the things ks behind the closing bracket, where n entries have been read: there must be none
@@ -52,6 +53,9 @@ read_place (TooMany p) = p
 abbrev pub read_told : Result ℕ ReadFault → ReadAnswer
 read_told (Ok n) = accepted n
 read_told (Err f) = refused (read_code f) (read_place f)
+
+abbrev pub read_numbers : ReadAnswer → List ℕ
+read_numbers r = r.code ∷ r.place ∷ r.entries ∷ []
 
 abbrev pub read_fault : number_fault.NumberFault → ReadFault
 read_fault (number_faults.NotOfTheForm p) = NotOfTheForm p

@@ -6,7 +6,7 @@ mod reader;
 mod writer;
 
 ghost use Rattle.std.specs.Prelude.{◌≡◌, length};
-ghost use Rattle.text.specs.Reading.{read_of, read_into, read_code, read_place, read_told, read_fault};
+ghost use Rattle.text.specs.Reading.{read_of, read_into, read_code, read_place, read_told, read_numbers, read_fault};
 ghost use Rattle.text.specs.Writing.{write_of, write_into, write_code, write_place, write_told};
 
 use list::{IndexList, Refusal};
@@ -92,6 +92,16 @@ pub fn read(text: &[u8], list: &mut [i32]) -> Result<usize, ReadFault>
     let entries = reader.look(list.len().min(IndexList::MAX_ENTRIES))?;
     reader.fill(&mut list[..entries]);
     Ok(entries)
+}
+
+// The three numbers of a reading's answer in document 01's order; a refusal has no entries.
+pub fn read_numbers(answer: Result<usize, ReadFault>) -> [u64; 3]
+    ensures { result ≡ read_numbers (read_told answer) }
+{
+    match answer {
+        Ok(entries) => [0, 0, entries as u64],
+        Err(fault) => [u64::from(fault.code()), fault.place() as u64, 0],
+    }
 }
 
 // Writes the list's text to the start of the buffer and answers its length.
